@@ -1,0 +1,3 @@
+pub mod OrderSteps
+pub mod Keys
+pub mod Subsets

@@ -1,0 +1,53 @@
+-- `product_of` meets its contract: at most 64 terms with at most 64 make at most 4096 products.
+use native.Mathlib.Omega.{arith}
+use lib.ListN.{length}
+use borrow.Author.Needs.{needs}
+use Rattle.polynomial.proofs.Keys.{most-products}
+use Rattle.polynomial.proofs.product_of.Statement.{statement}
+use Rattle.polynomial.proofs.product_of.Tie as tie
+
+mul-if1 : tie.Need-mul-if1
+mul-if1 c =
+    let s = c .before .before in
+    omega (arith, most-products (length (s .args .f .now)) (length (s .args .g .now)) (s .pre .0) (s .pre .1))
+
+slice-aggregate-product-in : tie.Need-slice-aggregate-product-in
+slice-aggregate-product-in c = search needs
+
+slice-aggregate-product-in-2 : tie.Need-slice-aggregate-product-in-2
+slice-aggregate-product-in-2 c = search needs
+
+product-in-requires : tie.Need-product-in-requires
+product-in-requires c κs = search needs
+
+returns : tie.Need-returns
+returns c = search needs
+
+slice-aggregate-product-in-3 : tie.Need-slice-aggregate-product-in-3
+slice-aggregate-product-in-3 c = search needs
+
+slice-aggregate-product-in-4 : tie.Need-slice-aggregate-product-in-4
+slice-aggregate-product-in-4 c = search needs
+
+product-in-requires-2 : tie.Need-product-in-requires-2
+product-in-requires-2 c κs =
+    let s = c .before .before .before .before .before in
+    let most = most-products (length (s .args .f .now)) (length (s .args .g .now)) (s .pre .0) (s .pre .1) in
+    (most, most)
+
+returns-2 : tie.Need-returns-2
+returns-2 c = search needs
+
+pub product-of-spec : {M : Type 1} → statement M
+product-of-spec =
+    tie.close
+    (tie.spec
+    mul-if1
+    slice-aggregate-product-in
+    slice-aggregate-product-in-2
+    product-in-requires
+    returns
+    slice-aggregate-product-in-3
+    slice-aggregate-product-in-4
+    product-in-requires-2
+    returns-2)

@@ -1,0 +1,78 @@
+-- `short_clause` meets its contract: its terms are the subsets of the plain literals, each with all the negated ones.
+use mathlib.Core.Path.{_≡_, sym, ap, _∙_}
+use Prim.Native.Nat.{_≤_}
+use native.Mathlib.Omega.{arith}
+use lib.ListN.{length}
+use lib.Pow.{pow-mono}
+use lib.Seq.{length-take-le}
+use borrow.Author.Needs.{needs}
+use Rattle.term.specs.Term.{degreeOf}
+use Rattle.polynomial.specs.ClauseLaws.{length-subsets-le}
+use Rattle.polynomial.specs.Polynomial.{outcomeOf}
+use Rattle.polynomial.proofs.Keys.{clause-masks}
+use Rattle.polynomial.proofs.short_clause.Statement.{statement}
+use Rattle.polynomial.proofs.short_clause.Tie as tie
+
+slice-aggregate-subsets : tie.Need-slice-aggregate-subsets
+slice-aggregate-subsets c = search needs
+
+subsets-requires : tie.Need-subsets-requires
+subsets-requires c κs = pow-mono {i = degreeOf (c .before .args .plain)} {j = 6} (c .before .pre)
+
+-- there are at most 64 subsets, and as many places
+few : (c : tie.After-subsets) → (c .subsets .result ≤ 64) × (length (c .subsets .last .1 .0) ≡ 64)
+few c =
+    let s = c .before .before in
+    (omega (arith, c .subsets .ensures .0, length-subsets-le 32 (s .args .plain), pow-mono {i = degreeOf (s .args .plain)} {j = 6} (s .pre)), c .subsets .kept .1 .0)
+
+array-share-prefix-masks : tie.Need-array-share-prefix-masks
+array-share-prefix-masks c = omega (arith, few (c .before))
+
+slice-aggregate-ordered-keys : tie.Need-slice-aggregate-ordered-keys
+slice-aggregate-ordered-keys c = sym (length-take-le _ _ (array-share-prefix-masks (c .before)))
+
+slice-aggregate-ordered-keys-2 : tie.Need-slice-aggregate-ordered-keys-2
+slice-aggregate-ordered-keys-2 c = search needs
+
+slice-aggregate-ordered-keys-3 : tie.Need-slice-aggregate-ordered-keys-3
+slice-aggregate-ordered-keys-3 c = search needs
+
+ordered-keys-requires : tie.Need-ordered-keys-requires
+ordered-keys-requires c κs =
+    let r = c .before .before .before .before .subsets in
+    let long = length-take-le (r .result) (r .last .1 .0) (array-share-prefix-masks (c .before .before .before)) in
+    (omega (arith, long, few (c .before .before .before .before)), omega (arith, long, few (c .before .before .before .before)))
+
+array-share-prefix-keys : tie.Need-array-share-prefix-keys
+array-share-prefix-keys c =
+    let r = c .before .before .before .before .before .before .before .subsets in
+    let d = c .before .before .ordered-keys in
+    omega (arith, d .ensures .0, d .kept .1 .1 .0, few (c .before .before .before .before .before .before .before), length-take-le (r .result) (r .last .1 .0) (array-share-prefix-masks (c .before .before .before .before .before .before)))
+
+slice-aggregate-collect : tie.Need-slice-aggregate-collect
+slice-aggregate-collect c = sym (length-take-le _ _ (array-share-prefix-keys (c .before)))
+
+collect-requires : tie.Need-collect-requires
+collect-requires c κs = search needs
+
+returns : tie.Need-returns
+returns c =
+    let s = c .before .before .before .before .before .before .before .before .before .before .before in
+    c .collect .ensures
+    ∙ ap outcomeOf (clause-masks (s .args .plain) (s .args .negated) _ _ (s .fits .plain .fits) (s .fits .negated .fits) (c .before .before .before .before .before .before .before .before .before .subsets .ensures .1) (c .before .before .before .before .ordered-keys .ensures .1))
+
+pub short-clause-spec : {M : Type 1} → statement M
+short-clause-spec =
+    tie.close
+    (tie.spec
+    slice-aggregate-subsets
+    subsets-requires
+    array-share-prefix-masks
+    slice-aggregate-ordered-keys
+    slice-aggregate-ordered-keys-2
+    slice-aggregate-ordered-keys-3
+    ordered-keys-requires
+    array-share-prefix-keys
+    slice-aggregate-collect
+    collect-requires
+    returns)

@@ -1,0 +1,4 @@
+pub mod Polynomial
+pub mod PolynomialLaws
+pub mod ClauseLaws
+pub mod OrderingLaws

@@ -1,0 +1,97 @@
+-- Polynomials over F2. Document 01: "A polynomial is a set of at most 64 terms. Adding the same term twice removes it."
+-- Here a polynomial is the list of its terms in strict written order, of any length; the limit of 64 is the struct's.
+use mathlib.Core.Bool.{Bool, true, false, cond, not, _&&_, _||_}
+use mathlib.Core.List.{List, [], _∷_, _++_, map}
+use Prim.Native.Nat.{ℕ, zero, suc, _-_, _/_, _%_, _^_, _<_}
+use lib.Dec.{T, eqb, leb}
+use lib.Bits.{bitOr}
+use lib.ListN.{length, take, replicate}
+use Rattle.term.specs.Term.{value, before}
+use Rattle.run.specs.F2.{_⊕_}
+use Rattle.run.specs.Run.{normalBy, Sorted, All}
+use Rattle.polynomial.specs.declared.Polynomial.{Polynomial}
+use Rattle.polynomial.specs.declared.Outcome.{Outcome}
+use Rattle.polynomial.specs.declared.Ordering.{Ordering}
+use Rattle.polynomial.specs.declared.Ordering.the-variants.{Earlier, Same, Later}
+
+-- the value at an assignment of a sum of terms, in order or not
+unfoldable pub eval : List ℕ → ℕ → Bool
+eval [] α = false
+eval (t ∷ f) α = value t α ⊕ eval f α
+
+-- a sum of terms as a polynomial: in the written order, and what comes twice vanishes
+abbrev pub normal : List ℕ → List ℕ
+normal l = normalBy before l
+
+-- the products of each term of f with each term of g
+unfoldable pub unions : List ℕ → List ℕ → List ℕ
+unions [] g = []
+unions (t ∷ f) g = map (bitOr t) g ++ unions f g
+
+abbrev pub sumOf : List ℕ → List ℕ → List ℕ
+sumOf f g = normal (f ++ g)
+
+abbrev pub productOf : List ℕ → List ℕ → List ℕ
+productOf f g = normal (unions f g)
+
+-- whether variable i, counted from 0, is in a mask
+abbrev pub has : ℕ → ℕ → Bool
+has i m = eqb (m / 2 ^ i % 2) 1
+
+-- "A clause becomes a product: a factor (x + 1) for each plain literal, a factor x for each negated one."
+abbrev pub plainFactor : ℕ → ℕ → List ℕ
+plainFactor i plain = cond (has i plain) (2 ^ i ∷ 0 ∷ []) (0 ∷ [])
+
+abbrev pub negatedFactor : ℕ → ℕ → List ℕ
+negatedFactor i negated = cond (has i negated) (2 ^ i ∷ []) (0 ∷ [])
+
+-- the product of the factors of the first d variables
+unfoldable pub factors : ℕ → ℕ → ℕ → List ℕ
+factors zero plain negated = 0 ∷ []
+factors (suc d) plain negated = productOf (plainFactor d plain) (productOf (negatedFactor d negated) (factors d plain negated))
+
+abbrev pub clauseOf : ℕ → ℕ → List ℕ
+clauseOf plain negated = factors 32 plain negated
+
+-- the subsets of a mask's first d variables
+unfoldable pub subsetsOf : ℕ → ℕ → List ℕ
+subsetsOf zero m = 0 ∷ []
+subsetsOf (suc d) m = cond (has d m) (subsetsOf d m ++ map (bitOr (2 ^ d)) (subsetsOf d m)) (subsetsOf d m)
+
+-- a clause is met where one of the literals of the first d variables is: a plain one whose variable is 1, a negated one whose variable is 0
+unfoldable pub metBy : ℕ → ℕ → ℕ → ℕ → Bool
+metBy zero plain negated α = false
+metBy (suc d) plain negated α = (has d plain && has d α) || (has d negated && not (has d α)) || metBy d plain negated α
+
+abbrev pub met : ℕ → ℕ → ℕ → Bool
+met plain negated α = metBy 32 plain negated α
+
+-- "ordered at the first place where their terms differ, the one with the earlier term first; if one is the beginning of the other, the shorter is first"
+unfoldable pub orderOf : List ℕ → List ℕ → Ordering
+orderOf [] [] = Same
+orderOf [] (u ∷ g) = Earlier
+orderOf (t ∷ f) [] = Later
+orderOf (t ∷ f) (u ∷ g) = cond (eqb t u) (orderOf f g) (cond (before t u) Earlier Later)
+
+-- a polynomial is in strict written order
+abbrev pub Ordered : List ℕ → Type 0
+Ordered f = Sorted before f
+
+-- every term has its variables within a mask; every term has its variables among the first n
+abbrev pub Uses : ℕ → List ℕ → Type 0
+Uses m f = All (λ t. T (value t m)) f
+
+abbrev pub Below : ℕ → List ℕ → Type 0
+Below n f = All (λ t. t < 2 ^ n) f
+
+-- ---- the struct: 64 places and a count
+abbrev pub termsOf : Polynomial → List ℕ
+termsOf p = take (p .count) (p .terms)
+
+-- the struct of at most 64 terms: unused places are zero
+abbrev pub polynomialOf : List ℕ → Polynomial
+polynomialOf l = record { terms = l ++ replicate (64 - length l) 0; count = length l }
+
+-- the answer for an exact result: its length, and the polynomial itself where that is at most 64, else 0
+abbrev pub outcomeOf : List ℕ → Outcome
+outcomeOf l = record { length = length l; polynomial = cond (leb (length l) 64) (polynomialOf l) (polynomialOf []) }

@@ -1,0 +1,135 @@
+-- Laws of the values, the order and the variables of polynomials, and of their being determined by their values.
+use mathlib.Core.Path.{_≡_, refl, sym, ap, ap₂, _∙_}
+use mathlib.Core.Logic.{_⊎_}
+use mathlib.Core.Bool.{Bool, true, false, _&&_, cond, and-false, true≢false}
+use mathlib.Core.List.{List, [], _∷_, _++_, map}
+use Prim.Native.Nat.{ℕ, _-_, _^_, _<_}
+use lib.Dec.{T, eqb, eqb→eq}
+use lib.Bits.{bitOr}
+use Rattle.term.specs.Term.{value, before}
+use Rattle.run.specs.Boolean.{both, is-true, cond-ind, of-true}
+use Rattle.term.specs.TermLaws.{value-or, value-one, value-self, below-value, value-below}
+use Rattle.term.specs.OrderLaws.{before-irrefl, before-trans, before-total, value-before}
+use Rattle.run.specs.F2.{_⊕_, ⊕-assoc, ⊕-left, ⊕-cancel, ⊕-self, ⊕-zero, &&-⊕, ⊕-&&, ⊕-false}
+use Rattle.run.specs.Run.{StrictOrder, toggleBy, normalBy, After, Sorted, All, odd}
+use Rattle.run.specs.RunLaws.{odd-append, odd-normal, odd-unique, normal-all, normal-sorted, all-append}
+use Rattle.polynomial.specs.Polynomial.{eval, normal, unions, sumOf, productOf, Ordered, Uses, Below}
+
+-- the written order is a strict total order
+pub written : StrictOrder before
+written = record { irrefl = before-irrefl; trans = before-trans; total = before-total }
+
+-- ---- values
+pub eval-append : (f g : List ℕ) (α : ℕ) → eval (f ++ g) α ≡ eval f α ⊕ eval g α
+unfolding eval
+eval-append [] g α = refl
+eval-append (t ∷ f) g α = ap (λ (x : Bool). value t α ⊕ x) (eval-append f g α) ∙ sym (⊕-assoc (value t α) (eval f α) (eval g α))
+
+eval-toggle : (first : ℕ → ℕ → Bool) (t : ℕ) (f : List ℕ) (α : ℕ) → eval (toggleBy first t f) α ≡ value t α ⊕ eval f α
+unfolding toggleBy eval
+eval-toggle first t [] α = refl
+eval-toggle first t (u ∷ f) α = cond-ind (eqb t u) (λ (z : List ℕ). eval z α ≡ value t α ⊕ (value u α ⊕ eval f α))
+    (λ h. rw (eqb→eq t u h) (sym (⊕-cancel (value u α) (eval f α))))
+    (λ h. cond-ind (first t u) (λ (z : List ℕ). eval z α ≡ value t α ⊕ (value u α ⊕ eval f α))
+    (λ k. refl)
+    (λ k. rw (eval-toggle first t f α) (⊕-left (value u α) (value t α) (eval f α))))
+
+pub eval-normal : (l : List ℕ) (α : ℕ) → eval (normal l) α ≡ eval l α
+unfolding normalBy eval
+eval-normal [] α = refl
+eval-normal (t ∷ l) α = eval-toggle before t (normal l) α ∙ ap (λ (x : Bool). value t α ⊕ x) (eval-normal l α)
+
+pub eval-times : (t : ℕ) (g : List ℕ) (α : ℕ) → eval (map (bitOr t) g) α ≡ (value t α && eval g α)
+unfolding eval
+eval-times t [] α = sym (and-false (value t α))
+eval-times t (u ∷ g) α = ap₂ _⊕_ (value-or t u α) (eval-times t g α) ∙ sym (&&-⊕ (value t α) (value u α) (eval g α))
+
+eval-unions : (f g : List ℕ) (α : ℕ) → eval (unions f g) α ≡ (eval f α && eval g α)
+unfolding unions eval
+eval-unions [] g α = refl
+eval-unions (t ∷ f) g α =
+    eval-append (map (bitOr t) g) (unions f g) α ∙ ap₂ _⊕_ (eval-times t g α) (eval-unions f g α) ∙ sym (⊕-&& (value t α) (eval f α) (eval g α))
+
+pub eval-sum : (f g : List ℕ) (α : ℕ) → eval (sumOf f g) α ≡ eval f α ⊕ eval g α
+eval-sum f g α = eval-normal (f ++ g) α ∙ eval-append f g α
+
+pub eval-product : (f g : List ℕ) (α : ℕ) → eval (productOf f g) α ≡ (eval f α && eval g α)
+eval-product f g α = eval-normal (unions f g) α ∙ eval-unions f g α
+
+-- the polynomial 1 is 1 everywhere
+pub eval-one : (α : ℕ) → eval (0 ∷ []) α ≡ true
+unfolding eval
+eval-one α = ap (λ (x : Bool). x ⊕ false) (value-one α)
+
+-- ---- results are in strict written order
+pub sum-ordered : (f g : List ℕ) → Ordered (sumOf f g)
+sum-ordered f g = normal-sorted before written (f ++ g)
+
+pub product-ordered : (f g : List ℕ) → Ordered (productOf f g)
+product-ordered f g = normal-sorted before written (unions f g)
+
+-- ---- results use only variables of their operands
+pub times-uses : (m t : ℕ) (g : List ℕ) → T (value t m) → Uses m g → Uses m (map (bitOr t) g)
+times-uses m t [] h b = tt
+times-uses m t (u ∷ g) h b = (of-true (value-or t u m ∙ is-true (value t m && value u m) (both (value t m) (value u m) h (b .0))), times-uses m t g h (b .1))
+
+unions-uses : (m : ℕ) (f g : List ℕ) → Uses m f → Uses m g → Uses m (unions f g)
+unfolding unions
+unions-uses m [] g a b = tt
+unions-uses m (t ∷ f) g a b = all-append (λ x. T (value x m)) (map (bitOr t) g) (unions f g) (times-uses m t g (a .0) b) (unions-uses m f g (a .1) b)
+
+pub sum-uses : (m : ℕ) (f g : List ℕ) → Uses m f → Uses m g → Uses m (sumOf f g)
+sum-uses m f g a b = normal-all before (λ x. T (value x m)) (f ++ g) (all-append (λ x. T (value x m)) f g a b)
+
+pub product-uses : (m : ℕ) (f g : List ℕ) → Uses m f → Uses m g → Uses m (productOf f g)
+product-uses m f g a b = normal-all before (λ x. T (value x m)) (unions f g) (unions-uses m f g a b)
+
+-- using the first n variables alone is being below 2 ^ n
+pub uses-below : (n : ℕ) (f : List ℕ) → Uses (2 ^ n - 1) f → Below n f
+uses-below n [] a = tt
+uses-below n (t ∷ f) a = (value-below n t (a .0), uses-below n f (a .1))
+
+pub below-uses : (n : ℕ) (f : List ℕ) → Below n f → Uses (2 ^ n - 1) f
+below-uses n [] a = tt
+below-uses n (t ∷ f) a = (below-value n t (a .0), below-uses n f (a .1))
+
+pub sum-below : (n : ℕ) (f g : List ℕ) → Below n f → Below n g → Below n (sumOf f g)
+sum-below n f g a b = uses-below n (sumOf f g) (sum-uses (2 ^ n - 1) f g (below-uses n f a) (below-uses n g b))
+
+pub product-below : (n : ℕ) (f g : List ℕ) → Below n f → Below n g → Below n (productOf f g)
+product-below n f g a b = uses-below n (productOf f g) (product-uses (2 ^ n - 1) f g (below-uses n f a) (below-uses n g b))
+
+-- ---- a polynomial is determined by its values
+-- the last term of a polynomial is the only one that is 1 at its own mask
+lastOr : ℕ → List ℕ → ℕ
+lastOr t [] = t
+lastOr t (u ∷ f) = lastOr u f
+
+before-last : (t u : ℕ) (f : List ℕ) → After before t (u ∷ f) → T (before t (lastOr u f))
+unfolding lastOr
+before-last t u [] a = a .0
+before-last t u (v ∷ f) a = before-last t v f (a .1)
+
+eval-last : (t : ℕ) (f : List ℕ) → Ordered (t ∷ f) → eval (t ∷ f) (lastOr t f) ≡ true
+unfolding lastOr eval
+eval-last t [] s = ap (λ (x : Bool). x ⊕ false) (is-true (value t t) (value-self t))
+eval-last t (u ∷ f) s = rw (value-before t (lastOr u f) (before-last t u f (s .0))) (eval-last u f (s .1))
+
+last-below : (n t : ℕ) (f : List ℕ) → Below n (t ∷ f) → lastOr t f < 2 ^ n
+unfolding lastOr
+last-below n t [] b = b .0
+last-below n t (u ∷ f) b = last-below n u f (b .1)
+
+-- a polynomial of n variables that is 0 at every assignment of them is 0
+zero-unique : (n : ℕ) (f : List ℕ) → Ordered f → Below n f → ((α : ℕ) → α < 2 ^ n → eval f α ≡ false) → f ≡ []
+zero-unique n [] s b h = refl
+zero-unique n (t ∷ f) s b h = absurd (true≢false (sym (eval-last t f s) ∙ h (lastOr t f) (last-below n t f b)))
+
+-- two polynomials of n variables that agree at every assignment of them are one
+pub unique : (n : ℕ) (f g : List ℕ) → Ordered f → Ordered g → Below n f → Below n g → ((α : ℕ) → α < 2 ^ n → eval f α ≡ eval g α) → f ≡ g
+unfolding odd
+unique n f g s r a b h = odd-unique before written f g s r
+    (λ t. ⊕-zero (odd t f) (odd t g) (sym (odd-append t f g) ∙ sym (odd-normal before t (f ++ g)) ∙ ap (odd t) nought))
+  where
+    nought : sumOf f g ≡ []
+    nought = zero-unique n (sumOf f g) (sum-ordered f g) (sum-below n f g a b) (λ α k. eval-sum f g α ∙ rw (h α k) (⊕-self (eval g α)))
