@@ -9,7 +9,7 @@ use denote.Ref.{now}
 use borrow.Author.Needs.{needs}
 use Rattle.term.proofs.Fill.{fill-more}
 use Rattle.term.specs.Term.{maskOf}
-use Rattle.polynomial.proofs.Keys.{zeros-less, outcome-long, outcome-short}
+use Rattle.polynomial.proofs.Keys.{filled, zeros-less, outcome-long, outcome-short}
 use Rattle.polynomial.proofs.collect.Statement.{statement}
 use Rattle.polynomial.proofs.collect.Tie as tie
 
@@ -63,10 +63,8 @@ returns-2 : tie.Need-returns-2 Inv-loop μ-loop
 returns-2 c =
     let l = c .before .loop in
     let keys = now (c .before .before .before .args .keys) in
-    let done : l .i ≡ length keys = omega arith in
     outcome-short (map maskOf keys) (l .terms) (length keys) (sym (length-map keys maskOf)) (omega arith)
-    (sym (take-append-drop (l .i) (l .terms)) ∙ ap₂ _++_ (l .inv .2 ∙ ap (map maskOf) (ap (λ (k : ℕ). take k keys) done ∙ take-length keys))
-    (l .inv .3 ∙ ap (λ (k : ℕ). replicate (64 - k) 0) done))
+    (filled maskOf keys (l .terms) (l .i) 64 (omega arith) (l .inv .2) (l .inv .3))
 
 pub collect-spec : {M : Type 1} → statement M
 collect-spec =
