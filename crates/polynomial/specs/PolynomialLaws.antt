@@ -6,6 +6,7 @@ use mathlib.Core.List.{List, [], _∷_, _++_, map}
 use Prim.Native.Nat.{ℕ, _-_, _^_, _<_}
 use lib.Dec.{T, eqb, eqb→eq}
 use lib.Bits.{bitOr}
+use lib.Pow.{pow-pos}
 use Rattle.term.specs.Term.{value, before}
 use Rattle.run.specs.Boolean.{both, is-true, cond-ind, of-true}
 use Rattle.term.specs.TermLaws.{value-or, value-one, value-self, below-value, value-below}
@@ -133,3 +134,17 @@ unique n f g s r a b h = odd-unique before written f g s r
   where
     nought : sumOf f g ≡ []
     nought = zero-unique n (sumOf f g) (sum-ordered f g) (sum-below n f g a b) (λ α k. eval-sum f g α ∙ rw (h α k) (⊕-self (eval g α)))
+
+-- f (g + 1) is f g + f
+pub product-plus-one : (n : ℕ) (f g : List ℕ) → Below n f → Below n g → productOf f (sumOf g (0 ∷ [])) ≡ sumOf (productOf f g) f
+product-plus-one n f g a b = unique n (productOf f g₁) (sumOf (productOf f g) f) (product-ordered f g₁) (sum-ordered (productOf f g) f)
+    (product-below n f g₁ a (sum-below n g (0 ∷ []) b (pow-pos n, tt))) (sum-below n (productOf f g) f (product-below n f g a b) a)
+    (λ α k. eval-product f g₁ α ∙ rw (eval-sum g (0 ∷ []) α, eval-one α, eval-sum (productOf f g) f α, eval-product f g α) (at (eval f α) (eval g α)))
+  where
+    g₁ : List ℕ
+    g₁ = sumOf g (0 ∷ [])
+
+    at : (x y : Bool) → (x && (y ⊕ true)) ≡ (x && y) ⊕ x
+    at true true = refl
+    at true false = refl
+    at false y = refl
