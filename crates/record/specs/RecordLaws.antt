@@ -1,0 +1,54 @@
+-- Laws of records: k bytes make a number below 256 ^ k, every such number is read back from its k bytes, and distinct numbers of 64 bits are distinct signed numbers. Assumes nothing.
+use mathlib.Core.Path.{_≡_, sym}
+use mathlib.Core.Bool.{Bool, true, false, cond}
+use mathlib.Core.List.{List, [], _∷_, _++_}
+use Prim.Native.Nat.{ℕ, zero, suc, _-_, _/_, _%_, _^_, _<_}
+use native.Mathlib.Nat.{pow-zero, pow-succ'}
+use native.Mathlib.Omega.{arith}
+use lib.Dec.{ltb}
+use lib.IntN.{pos, negsuc, pos-ne-negsuc}
+use lib.ListN.{drop}
+use Rattle.record.specs.Record.{littleEndian, numberAt, signed}
+
+-- every element is a byte
+abbrev pub Bytes : List ℕ → Type 0
+Bytes [] = Unit {0}
+Bytes (b ∷ s) = (b < 256) × Bytes s
+
+-- ---- the bound
+pub little-below : (k : ℕ) (s : List ℕ) → Bytes s → littleEndian k s < 256 ^ k
+unfolding littleEndian
+little-below zero s bytes = omega (arith, pow-zero 256)
+little-below (suc k) [] bytes = omega (arith, pow-succ' 256 k, little-below k [] bytes)
+little-below (suc k) (b ∷ s) bytes = omega (arith, pow-succ' 256 k, little-below k s (bytes .1))
+
+drop-bytes : (n : ℕ) (s : List ℕ) → Bytes s → Bytes (drop n s)
+drop-bytes zero s bytes = bytes
+drop-bytes (suc n) [] bytes = bytes
+drop-bytes (suc n) (b ∷ s) bytes = drop-bytes n s (bytes .1)
+
+pub number-below : (k : ℕ) (s : List ℕ) (at : ℕ) → Bytes s → numberAt k s at < 256 ^ k
+number-below k s at bytes = little-below k (drop at s) (drop-bytes at s bytes)
+
+-- ---- the bytes of a number: k of them, the lowest first
+unfoldable pub bytesOf : ℕ → ℕ → List ℕ
+bytesOf zero x = []
+bytesOf (suc k) x = x % 256 ∷ bytesOf k (x / 256)
+
+-- a number below 256 ^ k is read back from its k bytes, whatever follows them
+pub number-of-bytes : (k x : ℕ) (s : List ℕ) → x < 256 ^ k → littleEndian k (bytesOf k x ++ s) ≡ x
+unfolding littleEndian bytesOf
+number-of-bytes zero x s h = omega (arith, pow-zero 256)
+number-of-bytes (suc k) x s h =
+    let below : x / 256 < 256 ^ k = omega (arith, pow-succ' 256 k) in
+    omega (arith, number-of-bytes k (x / 256) s below)
+
+-- ---- signed numbers
+pub signed-injective : (x y : ℕ) → x < 2 ^ 64 → y < 2 ^ 64 → signed x ≡ signed y → x ≡ y
+signed-injective x y p q e = go (ltb x (2 ^ 63)) (ltb y (2 ^ 63)) e
+  where
+    go : (a b : Bool) → cond a (pos x) (negsuc (2 ^ 64 - 1 - x)) ≡ cond b (pos y) (negsuc (2 ^ 64 - 1 - y)) → x ≡ y
+    go true true e = cc
+    go true false e = absurd (pos-ne-negsuc x (2 ^ 64 - 1 - y) e)
+    go false true e = absurd (pos-ne-negsuc y (2 ^ 64 - 1 - x) (sym e))
+    go false false e = let d : 2 ^ 64 - 1 - x ≡ 2 ^ 64 - 1 - y = cc in omega arith
