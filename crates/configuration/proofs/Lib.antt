@@ -1,3 +1,4 @@
 pub mod Areas
 pub mod Forms
 pub mod Tables
+pub mod Replacements

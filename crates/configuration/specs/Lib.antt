@@ -1,7 +1,9 @@
 pub mod Weight
 pub mod Configuration
 pub mod Memory
+pub mod Replacement
 pub mod Sums
 pub mod ConfigurationLaws
 pub mod PlaceLaws
 pub mod MemoryLaws
+pub mod ReplacementLaws

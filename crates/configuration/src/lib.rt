@@ -1,10 +1,32 @@
 // Configurations: weighted polynomials, folded and in order, in lent areas.
 mod area;
 pub mod form;
+pub mod replace;
 pub mod table;
+
+use polynomial::Polynomial;
 
 // The head of a configuration: how many variables the problem has, and how many lines are held.
 pub struct Head {
     pub variables: u32,
     pub lines: u32,
+}
+
+// A weighted polynomial that is added to a configuration.
+pub struct Change {
+    pub polynomial: Polynomial,
+    pub amount: i64,
+}
+
+// Whether a replacement was made, or which limit forbade it.
+pub enum Verdict {
+    Done,
+    TooManyLines,
+    WeightTooLarge,
+}
+
+// A replacement's verdict, with the head that it leaves.
+pub struct Replaced {
+    pub head: Head,
+    pub verdict: Verdict,
 }
