@@ -23,6 +23,7 @@ use Rattle.configuration.specs.Configuration.{Line, line, some, byOrder,
 use Rattle.configuration.specs.ConfigurationLaws.{fit-ordered}
 use Rattle.configuration.specs.PlaceLaws.{Fresh, place-le, fold-held, fold-new, weight-held, weight-new, earlier-left, earlier-right, same-here}
 use Rattle.configuration.specs.Memory.{Memory, memoryOf, readLines, linesOf, imageOf, laidOut, zeros, formed}
+use Rattle.configuration.proofs.Forms.{rowAt}
 use Rattle.configuration.specs.MemoryLaws.{Short, Formed, formed-parts, formed-image, fits-short, length-lines, line-at, insert-terms, insert-weights, insert-counts, remove-terms, remove-weights, remove-counts, reweigh, reweigh-terms, reweigh-counts}
 use Rattle.configuration.specs.declared.Head.{Head}
 
@@ -92,26 +93,13 @@ module _ (f : List ℕ) (d : Line) where
           more (g, (u, inl q)) = (g, (u, inl (ap suc q)))
           more (g, (u, inr q)) = (g, (u, inr (next (placeOf f L) (length L) (q .0), q .1)))
 
--- ---- the count of a line
-pub count-le : (k i : ℕ) (ts : List ℕ) (ws : List ℤ) (cs : List ℕ) → T (laidOut k ts ws cs) → i < k → getD cs i 0 ≤ 64
-unfolding laidOut
-count-le zero i ts ws cs t h = absurd (not-suc-le-zero h)
-count-le (suc k) i ts ws cs t h = go i h (λ j l. count-le k j (drop 64 ts) (drop 1 ws) (drop 1 cs) (right (zeros (slice (getD cs 0 0) 64 ts)) _ (right (leb (getD cs 0 0) 64) _ t)) l)
-  where
-    go : (i : ℕ) → i < suc k → ((j : ℕ) → j < k → getD (drop 1 cs) j 0 ≤ 64) → getD cs i 0 ≤ 64
-    go zero h r = leb→le (getD cs 0 0) 64 (left (leb (getD cs 0 0) 64) _ t)
-    go (suc i) h r = rw (getD-drop 1 cs i 0, one-add i) at (r i (le-of-suc-le-suc h))
-
 -- ---- a search by halving among k lines
-abbrev pub rowOf : ℕ → List ℕ → List ℕ → List ℕ
-rowOf i ts cs = take (getD cs i 0) (drop (64 * i) ts)
-
 -- the place lies between two bounds, and the polynomial stands before the line at the upper one, if there is one
 pub record Between (f : List ℕ) (k : ℕ) (ts : List ℕ) (ws : List ℤ) (cs : List ℕ) (low high : ℕ) : Type 0 where
   pub from : low ≤ placeOf f (readLines k ts ws cs)
   pub to : placeOf f (readLines k ts ws cs) ≤ high
   pub in-table : high ≤ k
-  pub behind : (high ≡ k) ⊎ ((high < k) × (orderOf f (rowOf high ts cs) ≡ Earlier))
+  pub behind : (high ≡ k) ⊎ ((high < k) × (orderOf f (rowAt ts cs high) ≡ Earlier))
 
 abbrev none : Line
 none = line [] (pos 0)
@@ -129,30 +117,30 @@ module _ (f : List ℕ) (k : ℕ) (ts : List ℕ) (ws : List ℤ) (cs : List ℕ
     in-lines : i < length (readLines k ts ws cs)
     in-lines = omega (arith, b .in-table, length-lines k ts ws cs)
 
-    here : getD (readLines k ts ws cs) i none ≡ line (rowOf i ts cs) (getD ws i (pos 0))
+    here : getD (readLines k ts ws cs) i none ≡ line (rowAt ts cs i) (getD ws i (pos 0))
     here = line-at k i ts ws cs none (omega (arith, b .in-table))
 
-    pub lower : orderOf f (rowOf i ts cs) ≡ Earlier → Between f k ts ws cs low i
+    pub lower : orderOf f (rowAt ts cs i) ≡ Earlier → Between f k ts ws cs low i
     lower e = record {
       from = b .from;
-      to = earlier-left f (rowOf i ts cs) (getD ws i (pos 0)) none i (readLines k ts ws cs) in-lines here e;
+      to = earlier-left f (rowAt ts cs i) (getD ws i (pos 0)) none i (readLines k ts ws cs) in-lines here e;
       in-table = omega (arith, b .in-table);
       behind = inr (omega (arith, b .in-table), e);
     }
 
     module _ (r : Ordered (readLines k ts ws cs)) where
-      pub upper : orderOf f (rowOf i ts cs) ≡ Later → Between f k ts ws cs (i + 1) high
+      pub upper : orderOf f (rowAt ts cs i) ≡ Later → Between f k ts ws cs (i + 1) high
       upper e = record {
-        from = omega (arith, earlier-right f (rowOf i ts cs) (getD ws i (pos 0)) none i (readLines k ts ws cs) r in-lines here e);
+        from = omega (arith, earlier-right f (rowAt ts cs i) (getD ws i (pos 0)) none i (readLines k ts ws cs) r in-lines here e);
         to = b .to;
         in-table = b .in-table;
         behind = b .behind;
       }
 
-      pub found : orderOf f (rowOf i ts cs) ≡ Same → (i ≡ placeOf f (readLines k ts ws cs)) × (true ≡ isHeld f (readLines k ts ws cs))
+      pub found : orderOf f (rowAt ts cs i) ≡ Same → (i ≡ placeOf f (readLines k ts ws cs)) × (true ≡ isHeld f (readLines k ts ws cs))
       found e =
-          let p : placeOf f (readLines k ts ws cs) ≡ i = same-here f (rowOf i ts cs) (getD ws i (pos 0)) none i (readLines k ts ws cs) r in-lines here e in
-          let w : getD (readLines k ts ws cs) (placeOf f (readLines k ts ws cs)) none ≡ line f (getD ws i (pos 0)) = rw (p, order-same f (rowOf i ts cs) e) here in
+          let p : placeOf f (readLines k ts ws cs) ≡ i = same-here f (rowAt ts cs i) (getD ws i (pos 0)) none i (readLines k ts ws cs) r in-lines here e in
+          let w : getD (readLines k ts ws cs) (placeOf f (readLines k ts ws cs)) none ≡ line f (getD ws i (pos 0)) = rw (p, order-same f (rowAt ts cs i) e) here in
           (sym p, sym (held f none (getD ws i (pos 0)) (readLines k ts ws cs) (rw p in-lines) w))
 
   pub missing : (low high : ℕ) → Between f k ts ws cs low high → high ≤ low
@@ -165,9 +153,9 @@ module _ (f : List ℕ) (k : ℕ) (ts : List ℕ) (ws : List ℤ) (cs : List ℕ
       q : placeOf f (readLines k ts ws cs) ≡ high
       q = omega (arith, b .from, b .to)
 
-      go : (high ≡ k) ⊎ ((high < k) × (orderOf f (rowOf high ts cs) ≡ Earlier)) → isHeld f (readLines k ts ws cs) ≡ false
+      go : (high ≡ k) ⊎ ((high < k) × (orderOf f (rowAt ts cs high) ≡ Earlier)) → isHeld f (readLines k ts ws cs) ≡ false
       go (inl e) = not-held f none [] (pos 0) (readLines k ts ws cs) (inl (omega (arith, length-lines k ts ws cs)))
-      go (inr e) = not-held f none (rowOf high ts cs) (getD ws high (pos 0)) (readLines k ts ws cs)
+      go (inr e) = not-held f none (rowAt ts cs high) (getD ws high (pos 0)) (readLines k ts ws cs)
           (inr (rw q (omega (arith, length-lines k ts ws cs, e .0)), (rw q (line-at k high ts ws cs none (e .0)), e .1)))
 
 -- ---- elements moved, and others written where they stood
@@ -365,8 +353,8 @@ module _ {c : ℕ} {h : Head} {ts : List ℕ} {ws : List ℤ} {cs f : List ℕ} 
     line-here =
         let y = held-line f none M (sym (x .is-held) ∙ e) .1 in
         let l : getD M at none ≡ line f (y .0) = rw (x .place) (y .1) in
-        let r : getD M at none ≡ line (rowOf at ts cs) (getD ws at (pos 0)) = line-at (h .lines) at ts ws cs none in-table in
-        let g : f ≡ rowOf at ts cs = cc in
+        let r : getD M at none ≡ line (rowAt ts cs at) (getD ws at (pos 0)) = line-at (h .lines) at ts ws cs none in-table in
+        let g : f ≡ rowAt ts cs at = cc in
         rw g r
 
     pub weight-here : weight M f ≡ getD ws at (pos 0)

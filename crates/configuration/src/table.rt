@@ -1,4 +1,5 @@
-// Lines in the table: where a polynomial stands, and folding a weighted polynomial in.
+// Lines in the table: where a polynomial stands, and folding a weighted polynomial in. Functions with a `requires` are for
+// this crate and those above it, which have tested the configuration and the polynomials.
 use crate::Head;
 use crate::area::clear;
 use crate::area::insert_weight;

@@ -10,7 +10,8 @@ use Rattle.configuration.specs.Configuration.{Ordered}
 use Rattle.configuration.specs.ConfigurationLaws.{fit-ordered}
 use Rattle.configuration.specs.Memory.{Memory, memoryOf, linesOf}
 use Rattle.configuration.specs.MemoryLaws.{Formed, formed-parts}
-use Rattle.configuration.proofs.Tables.{rowOf, Between, everywhere, lower, upper, found, missing, count-le}
+use Rattle.configuration.proofs.Forms.{laid-short, rowAt}
+use Rattle.configuration.proofs.Tables.{Between, everywhere, lower, upper, found, missing}
 use Rattle.configuration.proofs.table.find.Statement.{statement}
 use Rattle.configuration.proofs.table.find.Tie as tie
 
@@ -38,7 +39,7 @@ abbrev begun : tie.After-compare Inv-loop μ-loop → tie.Start Inv-loop μ-loop
 begun c = c .before .before .before .before .before .before .before .before .before
 
 order-is : (c : tie.After-compare Inv-loop μ-loop)
-    → c .compare .result ≡ orderOf (now (begun c .args .f)) (rowOf (middle (c .before .before .before)) (now (begun c .args .terms)) (now (begun c .args .counts)))
+    → c .compare .result ≡ orderOf (now (begun c .args .f)) (rowAt (now (begun c .args .terms)) (now (begun c .args .counts)) (middle (c .before .before .before)))
 order-is c = c .compare .ensures ∙ ap (orderOf _) (c .before .row .ensures)
 
 cast-high : tie.Need-cast-high Inv-loop μ-loop
@@ -66,7 +67,7 @@ row-requires : tie.Need-row-requires Inv-loop μ-loop
 row-requires c κs =
     let s = c .before .before .before .before .before .before .before in
     let l : middle (c .before) < s .args .head .lines = omega arith in
-    omega (arith, parts s, count-le (s .args .head .lines) (middle (c .before)) (now (s .args .terms)) (now (s .args .weights)) (now (s .args .counts)) (parts s .laid) l)
+    omega (arith, parts s, laid-short (s .args .head .lines) (middle (c .before)) (now (s .args .terms)) (now (s .args .weights)) (now (s .args .counts)) (parts s .laid) l)
 
 compare-requires : tie.Need-compare-requires Inv-loop μ-loop
 compare-requires c κs = search needs
