@@ -1,0 +1,107 @@
+-- Weighted Polynomial Calculus: the rules of document 004, folded as document 01 says, and the taking of one step.
+use mathlib.Core.Bool.{Bool, true, false, cond, not, _&&_, _||_}
+use mathlib.Core.List.{List, [], _∷_, _++_}
+use Prim.Native.Nat.{ℕ}
+use lib.Dec.{leb}
+use lib.IntN.{ℤ, pos, _+ℤ_}
+use lib.Signed.{leZ}
+use lib.ListN.{length}
+use Rattle.run.specs.Run.{sorted}
+use Rattle.term.specs.Term.{before}
+use Rattle.polynomial.specs.Polynomial.{sumOf, productOf}
+use Rattle.configuration.specs.Weight.{limit, inRange, isZero}
+use Rattle.configuration.specs.Configuration.{Line, line, some, weight, addAll, negated, below, anyNegative}
+use Rattle.configuration.specs.Memory.{Memory, linesOf, imageOf, sized, wellFormed}
+use Rattle.configuration.specs.Replacement.{Step, taken, refused, unless, within}
+use Rattle.refusal.specs.Refusal.{numberOf}
+use Rattle.calculus.specs.declared.Rule.{Rule}
+use Rattle.calculus.specs.declared.Rule.the-variants.{Sum, Prod}
+use Rattle.calculus.specs.declared.Mode.{Mode}
+use Rattle.calculus.specs.declared.Mode.the-variants.{Plain, Signed}
+use Rattle.calculus.specs.declared.Objection.{Objection}
+use Rattle.calculus.specs.declared.Objection.the-variants.{Nothing, Found}
+use Rattle.calculus.specs.declared.Answer.{Answer}
+use Rattle.calculus.specs.declared.Answer.the-variants.{Taken, Refused}
+
+-- ---- the rules: what a rule with its operands takes away, and what it gives
+-- SUM: "f and g lose w each, f + g gains w, fg gains 2w". PROD: "f loses w, fg gains w, f(g + 1) gains w".
+abbrev pub premises : Rule → List ℕ → List ℕ → ℤ → List Line
+premises Sum f g w = line f w ∷ line g w ∷ []
+premises Prod f g w = line f w ∷ []
+
+abbrev pub conclusions : Rule → List ℕ → List ℕ → ℤ → List Line
+conclusions Sum f g w = line (sumOf f g) w ∷ line (productOf f g) (w +ℤ w) ∷ []
+conclusions Prod f g w = line (productOf f g) w ∷ line (productOf f (sumOf g (0 ∷ []))) w ∷ []
+
+abbrev pub changes : Rule → List ℕ → List ℕ → ℤ → List Line
+changes r f g w = negated (premises r f g w) ++ conclusions r f g w
+
+-- ---- what a step is judged by
+abbrev pub isPlain : Mode → Bool
+isPlain Plain = true
+isPlain Signed = false
+
+-- "In the plain mode w is 1 to 10^12 .. In the signed mode .. w is from −10^12 to 10^12 and not 0"
+abbrev pub amountFits : Mode → ℤ → Bool
+amountFits Plain w = leZ (pos 1) w && leZ w (pos limit)
+amountFits Signed w = inRange w && not (isZero w)
+
+-- the weight is there: of each premise's polynomial as much as the premises ask of it in all; "The polynomial 0 is never asked for."
+unfoldable pub covers : List Line → List Line → List Line → Bool
+covers L P [] = true
+covers L P (line f w ∷ Q) = cond (some f) (leZ (weight P f) (weight L f)) true && covers L P Q
+
+abbrev pub there : List Line → List Line → Bool
+there L P = covers L P P
+
+unfoldable pub allShort : List Line → Bool
+allShort [] = true
+allShort (line f w ∷ L) = leb (length f) 64 && allShort L
+
+-- ---- one step of a configuration
+unfoldable pub step : Rule → Mode → List ℕ → List ℕ → ℤ → List Line → Step
+step r m f g w L =
+    unless (not (isPlain m && anyNegative L)) 12
+    (unless (amountFits m w) 8
+    (unless (not (isPlain m) || there L (premises r f g w)) 9
+    (unless (allShort (conclusions r f g w)) 7
+    (within (addAll (changes r f g w) L)))))
+
+-- what code finds against a step, in front of what follows if nothing is found
+abbrev pub objected : Objection → Step → Step
+objected Nothing s = s
+objected (Found reason) s = refused (numberOf reason)
+
+-- ---- taking one step in lent memory: the answer, and what the memory then holds
+pub data Told : Type 0 where
+  done : Told
+  refusedAt : ℕ → ℕ → Told
+
+-- the paper's words for an answer: the record that a refusal names, and its number
+abbrev pub toldOf : Answer → Told
+toldOf Taken = done
+toldOf (Refused k reason) = refusedAt k (numberOf reason)
+
+pub record Left : Type 0 where
+  pub memory : Memory
+  pub told : Told
+
+abbrev pub leftOf : Memory → Answer → Left
+leftOf m a = record { memory = m; told = toldOf a }
+
+abbrev pub leaves : Memory → Step → Left
+leaves m (taken L) = record { memory = imageOf 128 (m .variables) L; told = done }
+leaves m (refused n) = record { memory = m; told = refusedAt 0 n }
+
+-- the tests of a step that is taken directly, then the step
+unfoldable pub judged : Rule → Mode → List ℕ → List ℕ → ℤ → Memory → Step
+judged r d f g w m =
+    unless (sized 128 m) 1
+    (unless (wellFormed m) 2
+    (unless (leb (length f) 64 && leb (length g) 64) 7
+    (unless (below (m .variables) f && below (m .variables) g) 6
+    (unless (sorted before f && sorted before g) 16
+    (step r d f g w (linesOf m))))))
+
+abbrev pub directStep : Rule → Mode → List ℕ → List ℕ → ℤ → Memory → Left
+directStep r d f g w m = leaves m (judged r d f g w m)

@@ -1,0 +1,343 @@
+-- Laws of the calculus: every rule keeps every cost, and so does a step, taken or refused; what a taken step passed and left; that a configuration that is
+-- kept stays one; and the same of a step that is taken in lent memory.
+use mathlib.Core.Path.{_≡_, refl, sym, ap, ap₂, _∙_}
+use mathlib.Core.Logic.{_⊎_, inl, inr}
+use mathlib.Core.Bool.{Bool, true, false, not, _&&_, _||_, cond, true≢false}
+use mathlib.Core.List.{List, [], _∷_}
+use Prim.Native.Nat.{ℕ, zero, suc, _≤_, _^_}
+use native.Mathlib.Omega.{arith}
+use lib.Dec.{T, leb, leb→le, le→leb, ltb, ltb→lt, lt→ltb}
+use lib.IntN.{ℤ, pos, negsuc, _+ℤ_, _-ℤ_, negℤ, subℕ, +ℤ-assoc, +ℤ-idl, +ℤ-idr, +ℤ-invl}
+use lib.Signed.{leZ}
+use lib.ListN.{length}
+use lib.Pow.{pow-pos}
+use Rattle.run.specs.Boolean as B
+use Rattle.run.specs.Boolean.{is-true, of-true, both, cond-ind}
+use Rattle.run.specs.F2.{_⊕_}
+use Rattle.run.specs.Run.{sorted, Sorted}
+use Rattle.run.specs.RunLaws.{holds-sorted}
+use Rattle.term.specs.Term.{before}
+use Rattle.polynomial.specs.Polynomial.{eval, sumOf, Below}
+use Rattle.polynomial.specs.PolynomialLaws.{written, eval-sum, eval-product, eval-one, sum-ordered, product-ordered, sum-below, product-below}
+use Rattle.configuration.specs.Weight.{isNegative, share}
+use Rattle.configuration.specs.Configuration.{Line, line, some, same, total, cost, weight, addAll, negated, Ordered, Every, below, isPolynomial, linesFit, weightsFit, anyNegative}
+use Rattle.configuration.specs.Sums.{solve, o, v, _⊞_}
+use Rattle.configuration.specs.ConfigurationLaws.{same-is, total-negated, total-append, cost-all, weight-all, all-ordered, weight-behind, weight-head, all-fit}
+use Rattle.configuration.specs.Memory.{Memory, linesOf, imageOf, sized, formed, wellFormed}
+use Rattle.configuration.specs.Replacement.{Step, taken, refused, unless, within}
+use Rattle.configuration.specs.MemoryLaws.{every-append, fits-short, there-and-back, image-wellFormed, formed-parts}
+use Rattle.calculus.specs.Calculus.{premises, conclusions, changes, isPlain, amountFits, covers, there, allShort, step, leaves, judged, directStep}
+use Rattle.calculus.specs.declared.Rule.{Rule}
+use Rattle.calculus.specs.declared.Rule.the-variants.{Sum, Prod}
+use Rattle.calculus.specs.declared.Mode.{Mode}
+use Rattle.calculus.specs.declared.Mode.the-variants.{Plain}
+
+-- ---- every rule is strongly sound: its conclusions cost what its premises cost, at every assignment
+sum-sound : (a b : Bool) (w : ℤ) → share a w +ℤ (share b w +ℤ pos 0) ≡ share (a ⊕ b) w +ℤ (share (a && b) (w +ℤ w) +ℤ pos 0)
+sum-sound true true w = solve (w ∷ []) (v 0 ⊞ (v 0 ⊞ o)) (o ⊞ (v 0 ⊞ v 0 ⊞ o)) tt
+sum-sound true false w = refl
+sum-sound false true w = solve (w ∷ []) (o ⊞ (v 0 ⊞ o)) (v 0 ⊞ o) tt
+sum-sound false false w = refl
+
+prod-sound : (a b : Bool) (w : ℤ) → share a w +ℤ pos 0 ≡ share (a && b) w +ℤ (share (a && (b ⊕ true)) w +ℤ pos 0)
+prod-sound true true w = refl
+prod-sound true false w = solve (w ∷ []) (v 0 ⊞ o) (o ⊞ (v 0 ⊞ o)) tt
+prod-sound false b w = refl
+
+pub sound : (r : Rule) (f g : List ℕ) (w : ℤ) (α : ℕ) → cost (premises r f g w) α ≡ cost (conclusions r f g w) α
+unfolding total
+sound Sum f g w α = rw (eval-sum f g α, eval-product f g α) (sum-sound (eval f α) (eval g α) w)
+sound Prod f g w α = rw (eval-product f g α, eval-product f (sumOf g (0 ∷ [])) α, eval-sum g (0 ∷ []) α, eval-one α) (prod-sound (eval f α) (eval g α) w)
+
+-- ---- what the changes of a rule sum to, and what they do to a configuration
+total-changes : (test : List ℕ → Bool) (r : Rule) (f g : List ℕ) (w : ℤ)
+    → total test (changes r f g w) ≡ negℤ (total test (premises r f g w)) +ℤ total test (conclusions r f g w)
+total-changes test r f g w = total-append test (negated (premises r f g w)) (conclusions r f g w)
+    ∙ ap (λ (z : ℤ). z +ℤ total test (conclusions r f g w)) (total-negated test (premises r f g w))
+
+pub changes-cost : (r : Rule) (f g : List ℕ) (w : ℤ) (α : ℕ) → cost (changes r f g w) α ≡ pos 0
+changes-cost r f g w α = total-changes (λ p. eval p α) r f g w ∙ rw (sound r f g w α) (+ℤ-invl (cost (conclusions r f g w) α))
+
+pub stepped-cost : (r : Rule) (f g : List ℕ) (w : ℤ) (L : List Line) (α : ℕ) → cost (addAll (changes r f g w) L) α ≡ cost L α
+stepped-cost r f g w L α = cost-all (changes r f g w) L α ∙ rw (changes-cost r f g w α) (+ℤ-idr (cost L α))
+
+-- ---- what a step passed, if it was taken
+pub unless-taken : (b : Bool) (n : ℕ) (s : Step) {M : List Line} → unless b n s ≡ taken M → (b ≡ true) × (s ≡ taken M)
+unless-taken true n s e = (refl, e)
+unless-taken false n s e = let z : _≡_ {A = ℕ} 0 1 = cc in let x : ⊥ = omega arith in absurd x
+
+same-taken : {N M : List Line} → taken N ≡ taken M → M ≡ N
+same-taken e = cc
+
+within-taken : (N M : List Line) → within N ≡ taken M → (M ≡ N) × ((leb (length N) 128 ≡ true) × (weightsFit N ≡ true))
+unfolding within
+within-taken N M e =
+    let a : _ = unless-taken _ _ _ e in
+    let b : _ = unless-taken _ _ _ (a .1) in
+    (same-taken (b .1), (a .0, b .0))
+
+pub record Passed (r : Rule) (d : Mode) (f g : List ℕ) (w : ℤ) (L M : List Line) : Type 0 where
+  pub plain : not (isPlain d && anyNegative L) ≡ true
+  pub amount : amountFits d w ≡ true
+  pub covered : (not (isPlain d) || there L (premises r f g w)) ≡ true
+  pub short : allShort (conclusions r f g w) ≡ true
+  pub result : M ≡ addAll (changes r f g w) L
+  pub lines : leb (length M) 128 ≡ true
+  pub weights : weightsFit M ≡ true
+
+pub step-passed : (r : Rule) (d : Mode) (f g : List ℕ) (w : ℤ) (L M : List Line) → step r d f g w L ≡ taken M → Passed r d f g w L M
+unfolding step
+step-passed r d f g w L M e =
+    let a : _ = unless-taken _ _ _ e in
+    let b : _ = unless-taken _ _ _ (a .1) in
+    let k : _ = unless-taken _ _ _ (b .1) in
+    let h : _ = unless-taken _ _ _ (k .1) in
+    let x : _ = within-taken (addAll (changes r f g w) L) M (h .1) in
+    record { plain = a .0; amount = b .0; covered = k .0; short = h .0; result = x .0; lines = rw (x .0) (x .1 .0); weights = rw (x .0) (x .1 .1) }
+
+pub step-taken : (r : Rule) (d : Mode) (f g : List ℕ) (w : ℤ) (L M : List Line) → step r d f g w L ≡ taken M → M ≡ addAll (changes r f g w) L
+step-taken r d f g w L M e = step-passed r d f g w L M e .result
+
+-- ---- a step keeps every cost, taken or refused
+-- what a step leaves
+abbrev pub left : Step → List Line → List Line
+left (taken M) L = M
+left (refused n) L = L
+
+pub step-cost : (r : Rule) (d : Mode) (f g : List ℕ) (w : ℤ) (L : List Line) (α : ℕ) → cost (left (step r d f g w L) L) α ≡ cost L α
+step-cost r d f g w L α = go (step r d f g w L) refl
+  where
+    go : (s : Step) → step r d f g w L ≡ s → cost (left s L) α ≡ cost L α
+    go (taken M) e = rw (step-taken r d f g w L M e) (stepped-cost r f g w L α)
+    go (refused n) e = refl
+
+-- ---- a taken step is the rule, folded: premises away, conclusions in, and nothing else
+pub step-weights : (r : Rule) (d : Mode) (f g : List ℕ) (w : ℤ) (L M : List Line) → step r d f g w L ≡ taken M → (p : List ℕ) → T (some p)
+    → weight M p ≡ weight L p -ℤ weight (premises r f g w) p +ℤ weight (conclusions r f g w) p
+step-weights r d f g w L M e p n =
+    let P : ℤ = weight (premises r f g w) p in
+    let C : ℤ = weight (conclusions r f g w) p in
+    rw (step-taken r d f g w L M e, weight-all p n (changes r f g w) L, total-changes (same p) r f g w) (sym (+ℤ-assoc (weight L p) (negℤ P) C))
+
+-- ---- signs
+share-sign : (b : Bool) (w : ℤ) → isNegative w ≡ false → isNegative (share b w) ≡ false
+share-sign true w h = h
+share-sign false w h = refl
+
+sum-sign : (a b : ℤ) → isNegative a ≡ false → isNegative b ≡ false → isNegative (a +ℤ b) ≡ false
+sum-sign (pos a) (pos b) h k = refl
+sum-sign (pos a) (negsuc b) h k = absurd (true≢false k)
+sum-sign (negsuc a) b h k = absurd (true≢false h)
+
+sub-sign : (a b : ℕ) → b ≤ a → isNegative (subℕ a b) ≡ false
+sub-sign a b h = cond-ind (ltb a b) (λ (z : ℤ). isNegative z ≡ false) (λ k. let x : ⊥ = omega (arith, ltb→lt a b k) in absurd x) (λ k. refl)
+
+difference-sign : (a b : ℤ) → T (leZ a b) → isNegative (b -ℤ a) ≡ false
+difference-sign (pos zero) (pos b) h = refl
+difference-sign (pos (suc a)) (pos b) h = sub-sign b (suc a) (leb→le (suc a) b h)
+difference-sign (pos a) (negsuc b) h = absurd h
+difference-sign (negsuc a) (pos b) h = refl
+difference-sign (negsuc a) (negsuc b) h = sub-sign (suc a) (suc b) (omega (arith, leb→le b a h))
+
+-- without negative weights no sum over the lines is negative
+pub total-sign : (test : List ℕ → Bool) (L : List Line) → anyNegative L ≡ false → isNegative (total test L) ≡ false
+unfolding total anyNegative
+total-sign test [] h = refl
+total-sign test (line f (negsuc k) ∷ L) h = absurd (true≢false h)
+total-sign test (line f (pos k) ∷ L) h = sum-sign (share (test f) (pos k)) (total test L) (share-sign (test f) (pos k) refl) (total-sign test L h)
+
+-- where no weight of a polynomial is negative, no line of an ordered configuration is
+pub weights-sign : (L : List Line) → Ordered L → ((p : List ℕ) → T (some p) → isNegative (weight L p) ≡ false) → anyNegative L ≡ false
+unfolding total anyNegative
+weights-sign [] r h = refl
+weights-sign (line f w ∷ L) r h = rw (sym (ap isNegative (weight-head f w L (r .1 .1 .0))) ∙ h f (r .0)) (weights-sign L (r .1 .1 .1) (λ p n. go p n (same p f) refl))
+  where
+    go : (p : List ℕ) → T (some p) → (b : Bool) → same p f ≡ b → isNegative (weight L p) ≡ false
+    go p n true e = rw (same-is p f (of-true e), weight-behind f L (r .1 .1 .0))
+    go p n false e = sym (ap isNegative (ap (λ (b : Bool). share b w +ℤ weight L p) e ∙ +ℤ-idl (weight L p))) ∙ h p n
+
+-- ---- in the plain mode no weight gets negative
+zero-least : (z : ℤ) → isNegative z ≡ false → T (leZ (pos 0) z)
+zero-least (pos n) h = le→leb 0 n (omega arith)
+zero-least (negsuc n) h = absurd (true≢false h)
+
+covers-weight : (L P Q : List Line) (p : List ℕ) → T (some p) → T (covers L P Q) → (weight Q p ≡ pos 0) ⊎ T (leZ (weight P p) (weight L p))
+unfolding covers total
+covers-weight L P [] p n h = inl refl
+covers-weight L P (line f w ∷ Q) p n h = go (same p f) refl (covers-weight L P Q p n (B.right (cond (some f) (leZ (weight P f) (weight L f)) true) (covers L P Q) h))
+  where
+    go : (b : Bool) → same p f ≡ b → (weight Q p ≡ pos 0) ⊎ T (leZ (weight P p) (weight L p))
+        → (share (same p f) w +ℤ weight Q p ≡ pos 0) ⊎ T (leZ (weight P p) (weight L p))
+    go true e k =
+        let q : p ≡ f = same-is p f (of-true e) in
+        let m : some f ≡ true = is-true (some f) (rw q at n) in
+        inr (rw q (rw m at (B.left (cond (some f) (leZ (weight P f) (weight L f)) true) (covers L P Q) h)))
+    go false e (inl k) = inl (ap₂ (λ (b : Bool) (z : ℤ). share b w +ℤ z) e k)
+    go false e (inr k) = inr k
+
+there-weight : (L P : List Line) (p : List ℕ) → T (some p) → T (there L P) → isNegative (weight L p) ≡ false → T (leZ (weight P p) (weight L p))
+there-weight L P p n h s = go (covers-weight L P P p n h)
+  where
+    go : (weight P p ≡ pos 0) ⊎ T (leZ (weight P p) (weight L p)) → T (leZ (weight P p) (weight L p))
+    go (inl e) = rw e (zero-least (weight L p) s)
+    go (inr k) = k
+
+amount-sign : (w : ℤ) → amountFits Plain w ≡ true → isNegative w ≡ false
+amount-sign (pos n) h = refl
+amount-sign (negsuc n) h = sym h
+
+conclusions-sign : (r : Rule) (f g : List ℕ) (w : ℤ) → isNegative w ≡ false → anyNegative (conclusions r f g w) ≡ false
+unfolding anyNegative
+conclusions-sign Sum f g w h = rw (h, sum-sign w w h h)
+conclusions-sign Prod f g w h = rw h
+
+not-true : (b : Bool) → not b ≡ true → b ≡ false
+not-true true h = sym h
+not-true false h = refl
+
+pub plain-stays : (r : Rule) (f g : List ℕ) (w : ℤ) (L M : List Line) → Ordered L → step r Plain f g w L ≡ taken M → anyNegative M ≡ false
+plain-stays r f g w L M k e =
+    let q : Passed r Plain f g w L M = step-passed r Plain f g w L M e in
+    let s : isNegative w ≡ false = amount-sign w (q .amount) in
+    weights-sign M (rw (q .result) (all-ordered (changes r f g w) L k)) (λ p n. rw (step-weights r Plain f g w L M e p n)
+    (sum-sign (weight L p -ℤ weight (premises r f g w) p) (weight (conclusions r f g w) p)
+    (difference-sign (weight (premises r f g w) p) (weight L p)
+    (there-weight L (premises r f g w) p n (of-true (q .covered)) (total-sign (same p) L (not-true (anyNegative L) (q .plain)))))
+    (total-sign (same p) (conclusions r f g w) (conclusions-sign r f g w s))))
+
+-- ---- a step keeps what is asked of every line
+below-holds : (n : ℕ) (f : List ℕ) → T (below n f) → Below n f
+unfolding below
+below-holds n [] h = tt
+below-holds n (t ∷ f) h = (ltb→lt t (2 ^ n) (B.left (ltb t (2 ^ n)) (below n f) h), below-holds n f (B.right (ltb t (2 ^ n)) (below n f) h))
+
+holds-below : (n : ℕ) (f : List ℕ) → Below n f → T (below n f)
+unfolding below
+holds-below n [] h = tt
+holds-below n (t ∷ f) h = both (ltb t (2 ^ n)) (below n f) (lt→ltb t (2 ^ n) (h .0)) (holds-below n f (h .1))
+
+polynomial-below : (n : ℕ) (f : List ℕ) → T (isPolynomial n f) → Below n f
+polynomial-below n f h = below-holds n f (B.left (below n f) (sorted before f) (B.right (leb (length f) 64) (below n f && sorted before f) h))
+
+-- lines of at most 64 terms are of polynomials where their terms are ordered and of n variables
+short-fit : (n : ℕ) (C : List Line) → T (allShort C) → Every (λ p. Below n p × Sorted before p) C → Every (λ p. T (isPolynomial n p)) C
+unfolding allShort
+short-fit n [] h c = tt
+short-fit n (line f w ∷ C) h c = (
+  both (leb (length f) 64) (below n f && sorted before f) (B.left (leb (length f) 64) (allShort C) h)
+      (both (below n f) (sorted before f) (holds-below n f (c .0 .0)) (holds-sorted before written f (c .0 .1))),
+  short-fit n C (B.right (leb (length f) 64) (allShort C) h) (c .1),
+)
+
+every-negated : (P : List ℕ → Type 0) (L : List Line) → Every P L → Every P (negated L)
+unfolding negated
+every-negated P [] a = tt
+every-negated P (line f w ∷ L) a = (a .0, every-negated P L (a .1))
+
+module _ (r : Rule) (f g : List ℕ) (w : ℤ) (n : ℕ) (hf : T (isPolynomial n f)) (hg : T (isPolynomial n g)) where
+  pub premises-fit : Every (λ p. T (isPolynomial n p)) (premises r f g w)
+  premises-fit = go r
+    where
+      go : (r : Rule) → Every (λ p. T (isPolynomial n p)) (premises r f g w)
+      go Sum = (hf, (hg, tt))
+      go Prod = (hf, tt)
+
+  pub conclusions-fit : T (allShort (conclusions r f g w)) → Every (λ p. T (isPolynomial n p)) (conclusions r f g w)
+  conclusions-fit h = short-fit n (conclusions r f g w) h (go r)
+    where
+      a : Below n f
+      a = polynomial-below n f hf
+
+      b : Below n g
+      b = polynomial-below n g hg
+
+      g₁ : List ℕ
+      g₁ = sumOf g (0 ∷ [])
+
+      one : Below n (0 ∷ [])
+      one = (pow-pos n, tt)
+
+      go : (r : Rule) → Every (λ p. Below n p × Sorted before p) (conclusions r f g w)
+      go Sum = ((sum-below n f g a b, sum-ordered f g), ((product-below n f g a b, product-ordered f g), tt))
+      go Prod = ((product-below n f g a b, product-ordered f g), ((product-below n f g₁ a (sum-below n g (0 ∷ []) b one), product-ordered f g₁), tt))
+
+  pub changes-fit : T (allShort (conclusions r f g w)) → Every (λ p. T (isPolynomial n p)) (changes r f g w)
+  changes-fit h =
+      every-append (λ p. T (isPolynomial n p)) (negated (premises r f g w)) (conclusions r f g w)
+      (every-negated (λ p. T (isPolynomial n p)) (premises r f g w) premises-fit) (conclusions-fit h)
+
+pub step-fits : (r : Rule) (d : Mode) (f g : List ℕ) (w : ℤ) (n : ℕ) (L M : List Line) → T (isPolynomial n f) → T (isPolynomial n g) → T (linesFit n L)
+    → step r d f g w L ≡ taken M → T (linesFit n M) × (length M ≤ 128) × T (weightsFit M)
+step-fits r d f g w n L M p q h e =
+    let s : Passed r d f g w L M = step-passed r d f g w L M e in (
+      rw (s .result) (all-fit n (changes r f g w) L (changes-fit r f g w n p q (of-true (s .short))) h),
+      leb→le (length M) 128 (of-true (s .lines)),
+      of-true (s .weights),
+    )
+
+-- ---- a step in lent memory
+-- what it passed, if it was taken
+pub record Admitted (r : Rule) (d : Mode) (f g : List ℕ) (w : ℤ) (m : Memory) (M : List Line) : Type 0 where
+  pub lengths : sized 128 m ≡ true
+  pub whole : wellFormed m ≡ true
+  pub short : (leb (length f) 64 && leb (length g) 64) ≡ true
+  pub variables : (below (m .variables) f && below (m .variables) g) ≡ true
+  pub ordered : (sorted before f && sorted before g) ≡ true
+  pub stepped : step r d f g w (linesOf m) ≡ taken M
+
+-- three tests of two each, as two tests of three each
+pub regroup : (a b c d x y : Bool) → T (a && b) → T (c && d) → T (x && y) → T (a && (c && x)) × T (b && (d && y))
+regroup a b c d x y h k l =
+    (both a (c && x) (B.left a b h) (both c x (B.left c d k) (B.left x y l)), both b (d && y) (B.right a b h) (both d y (B.right c d k) (B.right x y l)))
+
+module _ (r : Rule) (d : Mode) (f g : List ℕ) (w : ℤ) (m : Memory) (M : List Line) (e : judged r d f g w m ≡ taken M) where
+  pub direct-passed : Admitted r d f g w m M
+  unfolding judged
+  direct-passed =
+      let a : _ = unless-taken _ _ _ e in
+      let b : _ = unless-taken _ _ _ (a .1) in
+      let k : _ = unless-taken _ _ _ (b .1) in
+      let h : _ = unless-taken _ _ _ (k .1) in
+      let x : _ = unless-taken _ _ _ (h .1) in
+      record { lengths = a .0; whole = b .0; short = k .0; variables = h .0; ordered = x .0; stepped = x .1 }
+
+  operands : T (isPolynomial (m .variables) f) × T (isPolynomial (m .variables) g)
+  operands =
+      let q : Admitted r d f g w m M = direct-passed in
+      regroup (leb (length f) 64) (leb (length g) 64) (below (m .variables) f) (below (m .variables) g) (sorted before f) (sorted before g)
+      (of-true (q .short)) (of-true (q .variables)) (of-true (q .ordered))
+
+  direct-fits : T (linesFit (m .variables) M) × (length M ≤ 128) × T (weightsFit M)
+  direct-fits =
+      let q : Admitted r d f g w m M = direct-passed in
+      let t : T (formed 128 m) = B.left (formed 128 m) (leb (m .variables) 32 && weightsFit (linesOf m)) (of-true (q .whole)) in
+      step-fits r d f g w (m .variables) (linesOf m) M (operands .0) (operands .1) (formed-parts 128 m t .fit) (q .stepped)
+
+  direct-read : linesOf (imageOf 128 (m .variables) M) ≡ M
+  direct-read = there-and-back 128 (m .variables) M (direct-fits .1) (fits-short (m .variables) M (direct-fits .0))
+
+variables-bound : (m : Memory) → T (wellFormed m) → m .variables ≤ 32
+variables-bound m h = leb→le (m .variables) 32 (B.left (leb (m .variables) 32) (weightsFit (linesOf m)) (B.right (formed 128 m) (leb (m .variables) 32 && weightsFit (linesOf m)) h))
+
+module _ (r : Rule) (d : Mode) (f g : List ℕ) (w : ℤ) (m : Memory) where
+  pub direct-keeps : T (wellFormed m) → T (wellFormed (directStep r d f g w m .memory))
+  direct-keeps h = go (judged r d f g w m) refl
+    where
+      go : (s : Step) → judged r d f g w m ≡ s → T (wellFormed (leaves m s .memory))
+      go (taken M) e = let q : _ = direct-fits r d f g w m M e in image-wellFormed (m .variables) M (q .1) (variables-bound m h) (q .0) (q .2)
+      go (refused n) e = h
+
+  pub direct-cost : (α : ℕ) → cost (linesOf (directStep r d f g w m .memory)) α ≡ cost (linesOf m) α
+  direct-cost α = go (judged r d f g w m) refl
+    where
+      go : (s : Step) → judged r d f g w m ≡ s → cost (linesOf (leaves m s .memory)) α ≡ cost (linesOf m) α
+      go (taken M) e =
+          rw (direct-read r d f g w m M e, step-taken r d f g w (linesOf m) M (direct-passed r d f g w m M e .stepped)) (stepped-cost r f g w (linesOf m) α)
+      go (refused n) e = refl
+
+  pub direct-variables : directStep r d f g w m .memory .variables ≡ m .variables
+  direct-variables = go (judged r d f g w m)
+    where
+      go : (s : Step) → leaves m s .memory .variables ≡ m .variables
+      go (taken M) = refl
+      go (refused n) = refl
