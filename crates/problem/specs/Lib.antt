@@ -1,0 +1,4 @@
+pub mod Problem
+pub mod Entries
+pub mod ProblemLaws
+pub mod RefusedLaws
