@@ -72,7 +72,10 @@ fn is_there(
         Rule::Sum => {
             let order = compare(f, g);
             match order {
-                Ordering::Same => is_held(head, terms, weights, counts, f, amount + amount),
+                Ordering::Same => {
+                    let twice = amount + amount;
+                    is_held(head, terms, weights, counts, f, twice)
+                }
                 _ => {
                     if !is_held(head, terms, weights, counts, f, amount) {
                         return false;

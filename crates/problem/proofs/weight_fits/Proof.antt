@@ -4,8 +4,8 @@ use mathlib.Core.Bool.{true, false, _&&_}
 use native.Mathlib.Omega.{arith}
 use lib.IntN.{ℤ, pos, negsuc}
 use lib.Signed.{ltZ, leZ}
-use borrow.Author.Tests.{ltb-true, ltb-false, lt-leb, le-leb}
 use mir.Facts.{toZ-ofZ}
+use borrow.Author.Tests.{ltb-true, ltb-false, lt-leb, le-leb}
 use Rattle.problem.specs.Problem.{weightFits}
 use Rattle.problem.proofs.weight_fits.Statement.{statement}
 use Rattle.problem.proofs.weight_fits.Tie as tie

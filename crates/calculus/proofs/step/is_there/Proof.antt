@@ -68,8 +68,8 @@ compare-requires c κs = search needs
 enum-told-3 : tie.Need-enum-told-3
 enum-told-3 c = search needs
 
-add-is-held : tie.Need-add-is-held
-add-is-held c = let s = c .before .before .before .before .before .before .before .before .before in rw (toZ-ofZ (s .fits .amount)) (doubled-fits (s .args .amount) (s .pre .1))
+add-twice : tie.Need-add-twice
+add-twice c = let s = c .before .before .before .before .before .before .before .before .before in rw (toZ-ofZ (s .fits .amount)) (doubled-fits (s .args .amount) (s .pre .1))
 
 is-held-requires-2 : tie.Need-is-held-requires-2
 is-held-requires-2 c κs = search needs
@@ -120,7 +120,7 @@ is-there-spec =
     enum-told-2
     compare-requires
     enum-told-3
-    add-is-held
+    add-twice
     is-held-requires-2
     is-held-requires-3
     returns
