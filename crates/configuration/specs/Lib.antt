@@ -7,3 +7,4 @@ pub mod ConfigurationLaws
 pub mod PlaceLaws
 pub mod MemoryLaws
 pub mod ReplacementLaws
+pub mod WeightLaws
