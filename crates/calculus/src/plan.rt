@@ -1,11 +1,10 @@
-// What a rule takes away and gives, worked out before the configuration is touched.
-use crate::Rule;
+// What a rule takes away and gives, worked out before the configuration is touched. Both plans are for `step` alone, which
+// has tested the amount and the operands.
 use configuration::Change;
 use polynomial::Polynomial;
 ghost use mathlib.Core.Path.{_≡_};
 ghost use mathlib.Core.Bool.{true};
 ghost use mathlib.Core.List.{_++_, [], _∷_};
-ghost use Prim.Native.Nat.{_≤_};
 ghost use lib.Dec.{T};
 ghost use lib.IntN.{pos};
 ghost use Rattle.polynomial.specs.Polynomial.{termsOf, Below};
