@@ -4,25 +4,24 @@ use mathlib.Core.Path.{_≡_, refl, sym, ap, ap₂, _∙_}
 use mathlib.Core.Logic.{_⊎_, inl, inr}
 use mathlib.Core.Bool.{Bool, true, false, not, _&&_, _||_, cond, true≢false}
 use mathlib.Core.List.{List, [], _∷_}
-use Prim.Native.Nat.{ℕ, zero, suc, _≤_, _^_}
+use Prim.Native.Nat.{ℕ, zero, suc, _≤_}
 use native.Mathlib.Omega.{arith}
-use lib.Dec.{T, leb, leb→le, le→leb, ltb, ltb→lt, lt→ltb}
+use lib.Dec.{T, leb, leb→le, le→leb, ltb, ltb→lt}
 use lib.IntN.{ℤ, pos, negsuc, _+ℤ_, _-ℤ_, negℤ, subℕ, +ℤ-assoc, +ℤ-idl, +ℤ-idr, +ℤ-invl}
 use lib.Signed.{leZ}
 use lib.ListN.{length}
 use lib.Pow.{pow-pos}
-use Rattle.run.specs.Boolean as B
 use Rattle.run.specs.Boolean.{is-true, of-true, both, cond-ind}
 use Rattle.run.specs.F2.{_⊕_}
 use Rattle.run.specs.Run.{sorted, Sorted}
-use Rattle.run.specs.RunLaws.{holds-sorted}
 use Rattle.term.specs.Term.{before}
 use Rattle.polynomial.specs.Polynomial.{eval, sumOf, Below}
-use Rattle.polynomial.specs.PolynomialLaws.{written, eval-sum, eval-product, eval-one, sum-ordered, product-ordered, sum-below, product-below}
+use Rattle.polynomial.specs.PolynomialLaws.{eval-sum, eval-product, eval-one, sum-ordered, product-ordered, sum-below, product-below}
 use Rattle.configuration.specs.Weight.{isNegative, share}
 use Rattle.configuration.specs.Configuration.{Line, line, some, same, total, cost, weight, addAll, negated, Ordered, Every, below, isPolynomial, linesFit, weightsFit, anyNegative}
 use Rattle.configuration.specs.Sums.{solve, o, v, _⊞_}
 use Rattle.configuration.specs.ConfigurationLaws.{same-is, total-negated, total-append, cost-all, weight-all, all-ordered, weight-behind, weight-head, all-fit}
+use Rattle.configuration.specs.FormLaws.{polynomial-below, polynomial-is, sum-sign}
 use Rattle.configuration.specs.Memory.{Memory, linesOf, imageOf, sized, formed, wellFormed}
 use Rattle.configuration.specs.Replacement.{Step, taken, refused, unless, within}
 use Rattle.configuration.specs.MemoryLaws.{every-append, fits-short, there-and-back, image-wellFormed, formed-parts}
@@ -31,6 +30,7 @@ use Rattle.calculus.specs.declared.Rule.{Rule}
 use Rattle.calculus.specs.declared.Rule.the-variants.{Sum, Prod}
 use Rattle.calculus.specs.declared.Mode.{Mode}
 use Rattle.calculus.specs.declared.Mode.the-variants.{Plain}
+use Rattle.run.specs.Boolean as B
 
 -- ---- every rule is strongly sound: its conclusions cost what its premises cost, at every assignment
 sum-sound : (a b : Bool) (w : ℤ) → share a w +ℤ (share b w +ℤ pos 0) ≡ share (a ⊕ b) w +ℤ (share (a && b) (w +ℤ w) +ℤ pos 0)
@@ -124,11 +124,6 @@ share-sign : (b : Bool) (w : ℤ) → isNegative w ≡ false → isNegative (sha
 share-sign true w h = h
 share-sign false w h = refl
 
-sum-sign : (a b : ℤ) → isNegative a ≡ false → isNegative b ≡ false → isNegative (a +ℤ b) ≡ false
-sum-sign (pos a) (pos b) h k = refl
-sum-sign (pos a) (negsuc b) h k = absurd (true≢false k)
-sum-sign (negsuc a) b h k = absurd (true≢false h)
-
 sub-sign : (a b : ℕ) → b ≤ a → isNegative (subℕ a b) ≡ false
 sub-sign a b h = cond-ind (ltb a b) (λ (z : ℤ). isNegative z ≡ false) (λ k. let x : ⊥ = omega (arith, ltb→lt a b k) in absurd x) (λ k. refl)
 
@@ -191,7 +186,7 @@ unfolding anyNegative
 conclusions-sign Sum f g w h = rw (h, sum-sign w w h h)
 conclusions-sign Prod f g w h = rw h
 
-not-true : (b : Bool) → not b ≡ true → b ≡ false
+pub not-true : (b : Bool) → not b ≡ true → b ≡ false
 not-true true h = sym h
 not-true false h = refl
 
@@ -206,26 +201,12 @@ plain-stays r f g w L M k e =
     (total-sign (same p) (conclusions r f g w) (conclusions-sign r f g w s))))
 
 -- ---- a step keeps what is asked of every line
-below-holds : (n : ℕ) (f : List ℕ) → T (below n f) → Below n f
-unfolding below
-below-holds n [] h = tt
-below-holds n (t ∷ f) h = (ltb→lt t (2 ^ n) (B.left (ltb t (2 ^ n)) (below n f) h), below-holds n f (B.right (ltb t (2 ^ n)) (below n f) h))
-
-holds-below : (n : ℕ) (f : List ℕ) → Below n f → T (below n f)
-unfolding below
-holds-below n [] h = tt
-holds-below n (t ∷ f) h = both (ltb t (2 ^ n)) (below n f) (lt→ltb t (2 ^ n) (h .0)) (holds-below n f (h .1))
-
-polynomial-below : (n : ℕ) (f : List ℕ) → T (isPolynomial n f) → Below n f
-polynomial-below n f h = below-holds n f (B.left (below n f) (sorted before f) (B.right (leb (length f) 64) (below n f && sorted before f) h))
-
 -- lines of at most 64 terms are of polynomials where their terms are ordered and of n variables
 short-fit : (n : ℕ) (C : List Line) → T (allShort C) → Every (λ p. Below n p × Sorted before p) C → Every (λ p. T (isPolynomial n p)) C
 unfolding allShort
 short-fit n [] h c = tt
 short-fit n (line f w ∷ C) h c = (
-  both (leb (length f) 64) (below n f && sorted before f) (B.left (leb (length f) 64) (allShort C) h)
-      (both (below n f) (sorted before f) (holds-below n f (c .0 .0)) (holds-sorted before written f (c .0 .1))),
+  polynomial-is n f (B.left (leb (length f) 64) (allShort C) h) (c .0 .0) (c .0 .1),
   short-fit n C (B.right (leb (length f) 64) (allShort C) h) (c .1),
 )
 
@@ -314,9 +295,9 @@ module _ (r : Rule) (d : Mode) (f g : List ℕ) (w : ℤ) (m : Memory) (M : List
       step-fits r d f g w (m .variables) (linesOf m) M (operands .0) (operands .1) (formed-parts 128 m t .fit) (q .stepped)
 
   direct-read : linesOf (imageOf 128 (m .variables) M) ≡ M
-  direct-read = there-and-back 128 (m .variables) M (direct-fits .1) (fits-short (m .variables) M (direct-fits .0))
+  direct-read = there-and-back 128 (m .variables) M (fits-short (m .variables) M (direct-fits .0))
 
-variables-bound : (m : Memory) → T (wellFormed m) → m .variables ≤ 32
+pub variables-bound : (m : Memory) → T (wellFormed m) → m .variables ≤ 32
 variables-bound m h = leb→le (m .variables) 32 (B.left (leb (m .variables) 32) (weightsFit (linesOf m)) (B.right (formed 128 m) (leb (m .variables) 32 && weightsFit (linesOf m)) h))
 
 module _ (r : Rule) (d : Mode) (f g : List ℕ) (w : ℤ) (m : Memory) where

@@ -126,7 +126,7 @@ module _ (c n : ℕ) (m m′ : Memory) (f : List ℕ) (w : ℤ) (t : T (formed c
   added-formed = rw e (image-formed c (m .variables) (add f w (linesOf m)) l added-fit)
 
   pub added-lines : linesOf m′ ≡ add f w (linesOf m)
-  added-lines = rw e (there-and-back c (m .variables) (add f w (linesOf m)) l (fits-short (m .variables) (add f w (linesOf m)) added-fit))
+  added-lines = rw e (there-and-back c (m .variables) (add f w (linesOf m)) (fits-short (m .variables) (add f w (linesOf m)) added-fit))
 
   pub added-variables : m′ .variables ≡ m .variables
   added-variables = ap (λ (x : Memory). x .variables) e
@@ -320,7 +320,7 @@ module _ (old new : Memory) (A : List ℤ) (to : T (formed 128 old)) (tn : T (fo
     first-variables = ev ∙ ap (λ (x : Memory). x .variables) (sym e)
 
     first-lines : linesOf m ≡ addAll (chosen true A (linesOf new)) (linesOf old)
-    first-lines = ap linesOf e ∙ there-and-back 128 (old .variables) (addAll (chosen true A (linesOf new)) (linesOf old)) first-short
+    first-lines = ap linesOf e ∙ there-and-back 128 (old .variables) (addAll (chosen true A (linesOf new)) (linesOf old))
         (fits-short (old .variables) (addAll (chosen true A (linesOf new)) (linesOf old)) first-fit)
 
     pub last-room : Room (chosen false A (linesOf new)) (linesOf m)
@@ -351,7 +351,7 @@ module _ (C : List Line) (n : ℕ) (new : Memory) (k : length C ≡ 4) (q : Ever
   net-formed = rw e (image-formed 4 n (addAll C []) net-short net-fit)
 
   pub net-lines : linesOf new ≡ addAll C []
-  net-lines = ap linesOf e ∙ there-and-back 4 n (addAll C []) net-short (fits-short n (addAll C []) net-fit)
+  net-lines = ap linesOf e ∙ there-and-back 4 n (addAll C []) (fits-short n (addAll C []) net-fit)
 
   pub net-variables : new .variables ≡ n
   net-variables = ap (λ (m : Memory). m .variables) e

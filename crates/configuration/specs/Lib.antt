@@ -3,6 +3,7 @@ pub mod Configuration
 pub mod Memory
 pub mod Replacement
 pub mod Sums
+pub mod FormLaws
 pub mod ConfigurationLaws
 pub mod PlaceLaws
 pub mod MemoryLaws

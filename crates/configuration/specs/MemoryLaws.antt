@@ -396,8 +396,8 @@ read-laid (line f w ∷ L) x y z s =
     rw (append-assoc p (rows L) x, drop-at p (rows L ++ x) 64 (length-padded f w (s .0)), read-laid L x y z (s .1))
     (rw (append-assoc f (replicate (64 - length f) 0) (rows L ++ x), take-append-seam f (replicate (64 - length f) 0 ++ (rows L ++ x))))
 
-pub there-and-back : (c n : ℕ) (L : List Line) → length L ≤ c → Every (λ f. length f ≤ 64) L → linesOf (imageOf c n L) ≡ L
-there-and-back c n L h s = read-laid L (replicate (64 * (c - length L)) 0) (replicate (c - length L) (pos 0)) (replicate (c - length L) 0) s
+pub there-and-back : (c n : ℕ) (L : List Line) → Every (λ f. length f ≤ 64) L → linesOf (imageOf c n L) ≡ L
+there-and-back c n L s = read-laid L (replicate (64 * (c - length L)) 0) (replicate (c - length L) (pos 0)) (replicate (c - length L) 0) s
 
 -- ---- what is laid out passes the test
 laid-image : (L : List Line) (x : List ℕ) (y : List ℤ) (z : List ℕ) → Short L → T (zeros x) → T (zeroWeights y) → T (zeros z)
@@ -447,11 +447,11 @@ image-formed c n L h t =
     let hc : length (m .counts) ≡ c = simp (length-append, length-replicate) (omega (arith, length-counts L)) in
     let hl : laidOut (m .lines) (m .terms) (m .weights) (m .counts) ≡ true =
     laid-image L _ _ _ s (replicate-zeros (64 * (c - length L))) (replicate-zeroWeights (c - length L)) (replicate-zeros (c - length L)) in
-    rw (ht, hw, hc, eqb-self (64 * c), eqb-self c, is-true (leb (length L) c) (le→leb (length L) c h), hl, there-and-back c n L h s) t
+    rw (ht, hw, hc, eqb-self (64 * c), eqb-self c, is-true (leb (length L) c) (le→leb (length L) c h), hl, there-and-back c n L s) t
 
 pub image-wellFormed : (n : ℕ) (L : List Line) → length L ≤ 128 → n ≤ 32 → T (linesFit n L) → T (weightsFit L) → T (wellFormed (imageOf 128 n L))
 image-wellFormed n L h k t v =
-    rw (is-true (formed 128 (imageOf 128 n L)) (image-formed 128 n L h t), is-true (leb n 32) (le→leb n 32 k), there-and-back 128 n L h (fits-short n L t)) v
+    rw (is-true (formed 128 (imageOf 128 n L)) (image-formed 128 n L h t), is-true (leb n 32) (le→leb n 32 k), there-and-back 128 n L (fits-short n L t)) v
 
 -- ---- what is found laid out is the memory of the lines that are read
 none : (k z : ℕ) → 0 ≡ suc k + z → ⊥
