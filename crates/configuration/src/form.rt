@@ -23,7 +23,7 @@ pub fn within_limit(weight: i64) -> bool
 }
 
 // Whether a term has its variables among the first ones.
-fn is_term(variables: u32, term: u32) -> bool
+pub fn is_term(variables: u32, term: u32) -> bool
     ensures { λ r. ⌜ r ≡ ltb term (2 ^ variables) ⌝ }
 {
     if 32 <= variables {

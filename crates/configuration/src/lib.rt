@@ -1,5 +1,6 @@
 // Configurations: weighted polynomials, folded and in order, in lent areas.
 mod area;
+pub mod blank;
 pub mod form;
 pub mod replace;
 pub mod table;

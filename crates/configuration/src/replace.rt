@@ -9,14 +9,17 @@ use crate::form::weights_fit;
 use crate::table::fold_in;
 use crate::table::row;
 use crate::table::weight_of;
+use polynomial::Polynomial;
 ghost use mathlib.Core.Path.{_≡_};
-ghost use mathlib.Core.List.{[]};
-ghost use Prim.Native.Nat.{_+_, _≤_};
+ghost use mathlib.Core.List.{[], _∷_};
+ghost use Prim.Native.Nat.{_+_, _≤_, _<_, _^_};
 ghost use lib.Dec.{T, leb};
 ghost use lib.IntN.{pos};
+ghost use lib.Signed.{mag};
 ghost use lib.ListN.{length, take, replicate};
+ghost use Rattle.polynomial.specs.Polynomial.{termsOf};
 ghost use Rattle.configuration.specs.Weight.{allInRange};
-ghost use Rattle.configuration.specs.Configuration.{addAll, isPolynomial, Every};
+ghost use Rattle.configuration.specs.Configuration.{line, addAll, isPolynomial, Every};
 ghost use Rattle.configuration.specs.Memory.{memoryOf, linesIn, imageOf, formed, wellFormed};
 ghost use Rattle.configuration.specs.Replacement.{changesOf, Small, Room, weightsBefore, weightsAfter, countHeld, chosen, verdictOf, replacementOf, replaced};
 
@@ -229,4 +232,34 @@ pub fn replace(
         head: last,
         verdict,
     }
+}
+
+// Adds one weighted polynomial to a configuration, within the limits. A refusal changes nothing. It is for the filing of
+// problems, which has tested the polynomial and the weight.
+pub fn add(
+    head: Head,
+    terms: &mut [u32],
+    weights: &mut [i64],
+    counts: &mut [u32],
+    f: Polynomial,
+    amount: i64,
+) -> Replaced
+    requires { ⌜ T (wellFormed (memoryOf head (now terms) (now weights) (now counts))) × T (isPolynomial (head .variables) (termsOf f)) × (mag amount < 2 ^ 42) ⌝ }
+    ensures { λ r. ⌜ replacementOf (memoryOf (r .head) (now (terms .exit)) (now (weights .exit)) (now (counts .exit))) (r .verdict) ≡ replaced (line (termsOf f) amount ∷ []) (memoryOf head (now (terms .entry)) (now (weights .entry)) (now (counts .entry))) ⌝ }
+{
+    let change = Change {
+        polynomial: f,
+        amount,
+    };
+    let nothing = Change {
+        polynomial: Polynomial::ZERO,
+        amount: 0,
+    };
+    replace(
+        head,
+        terms,
+        weights,
+        counts,
+        [change, nothing, nothing, nothing],
+    )
 }
