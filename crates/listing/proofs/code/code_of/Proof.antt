@@ -1,0 +1,99 @@
+-- `code_of` meets its contract: the texts of the numbers are added one after the other.
+use mathlib.Core.Path.{_≡_, sym, _∙_}
+use Prim.Native.Nat.{ℕ, suc, _-_, _≤_}
+use native.Mathlib.Omega.{arith}
+use lib.ListN.{length, length-replicate}
+use lib.Seq.{length-take-le}
+use denote.Ref.{now}
+use borrow.Author.Needs.{needs}
+use Rattle.listing.proofs.Codes.{all-left, one-less, none-left}
+use Rattle.configuration.specs.Memory.{Memory, memoryOf, linesOf, linesIn}
+use Rattle.listing.specs.Code.{codeOf, codesFrom}
+use Rattle.listing.proofs.code.code_of.Statement.{statement}
+use Rattle.listing.proofs.code.code_of.Tie as tie
+
+-- the texts that are left, added to the code that is there, give the code of the whole
+abbrev Inv-loop : tie.InvT-loop
+Inv-loop head terms weights counts lines text₀ code₀ number₀ text code number =
+    (codesFrom (suc lines - number) number code (head .variables) (linesIn head terms weights counts) ≡ codeOf (head .variables) (linesIn head terms weights counts))
+    × (number ≤ suc lines) × (length text ≡ 8448)
+
+abbrev μ-loop : tie.MeasureT-loop
+μ-loop head terms weights counts lines text₀ code₀ number₀ text code number = suc lines - number
+
+abbrev memory : tie.Start Inv-loop μ-loop → Memory
+memory s = memoryOf (s .args .head) (now (s .args .terms)) (now (s .args .weights)) (now (s .args .counts))
+
+cast-lines : tie.Need-cast-lines Inv-loop μ-loop
+cast-lines c = search needs
+
+start-requires : tie.Need-start-requires Inv-loop μ-loop
+start-requires c κs = search needs
+
+loop-holds : tie.Need-loop-holds Inv-loop μ-loop
+loop-holds c =
+    let s = c .before .before .before .before in
+    (all-left (memory s) (c .start .result) (s .pre) (c .start .ensures), omega arith, length-replicate {A = ℕ} 8448 0)
+
+slice-aggregate-put-text : tie.Need-slice-aggregate-put-text Inv-loop μ-loop
+slice-aggregate-put-text c = search needs
+
+put-text-requires : tie.Need-put-text-requires Inv-loop μ-loop
+put-text-requires c κs =
+    let l = c .before .before in
+    (l .before .before .before .before .before .pre, c .before .loop-test .taken, omega (arith, l .loop .inv .2))
+
+array-share-prefix-text : tie.Need-array-share-prefix-text Inv-loop μ-loop
+array-share-prefix-text c = search needs
+
+slice-aggregate-add-bytes : tie.Need-slice-aggregate-add-bytes Inv-loop μ-loop
+slice-aggregate-add-bytes c =
+    let p = c .before .before .put-text in
+    sym (length-take-le (p .result) (p .last .0) (omega (arith, p .kept .0, p .ensures .1 .1, c .before .before .before .before .before .loop .inv .2)))
+
+add-bytes-requires : tie.Need-add-bytes-requires Inv-loop μ-loop
+add-bytes-requires c κs = search needs
+
+add-number : tie.Need-add-number Inv-loop μ-loop
+add-number c = search needs
+
+loop-less : tie.Need-loop-less Inv-loop μ-loop
+loop-less c = search needs
+
+loop-again : tie.Need-loop-again Inv-loop μ-loop
+loop-again c =
+    let k = c .before .before .before .before .before in
+    let l = k .before in
+    let s = l .before .before .before .before .before in
+    let p = c .before .before .before .put-text in (
+      one-less (s .args .head .lines) (l .loop .number) (l .loop .code) (s .args .head .variables) (linesOf (memory s)) (l .loop .text) (p .last .0) (p .result)
+          (c .add-bytes .result) (k .loop-test .taken) (p .ensures .0) (p .ensures .1 .0) (c .add-bytes .ensures)
+          ∙ l .loop .inv .0,
+      omega (arith, k .loop-test .taken),
+      p .kept .0 ∙ l .loop .inv .2,
+    )
+
+returns : tie.Need-returns Inv-loop μ-loop
+returns c =
+    let l = c .before in
+    let s = l .before .before .before .before .before in
+    sym (none-left (s .args .head .lines) (l .loop .number) (l .loop .code) (s .args .head .variables) (linesOf (memory s)) (c .loop-test .left)) ∙ l .loop .inv .0
+
+pub code-of-spec : {M : Type 1} → statement M
+code-of-spec =
+    tie.close
+    (tie.spec
+    Inv-loop
+    μ-loop
+    cast-lines
+    start-requires
+    loop-holds
+    slice-aggregate-put-text
+    put-text-requires
+    array-share-prefix-text
+    slice-aggregate-add-bytes
+    add-bytes-requires
+    add-number
+    loop-less
+    loop-again
+    returns)

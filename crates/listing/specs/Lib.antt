@@ -1,0 +1,4 @@
+pub mod Code
+pub mod Listing
+pub mod ListingLaws
+pub mod Writing

@@ -1,0 +1,27 @@
+// The code of a listing.
+use crate::put_text;
+use configuration::Head;
+use fnv::add_bytes;
+use fnv::start;
+ghost use mathlib.Core.Path.{_≡_};
+ghost use lib.Dec.{T};
+ghost use Rattle.configuration.specs.Memory.{memoryOf, linesIn, wellFormed};
+ghost use Rattle.listing.specs.Code.{codeOf};
+
+// The code of the whole listing, newlines included, of a configuration that is known to be well formed: each line is
+// written and added in turn.
+pub fn code_of(head: Head, terms: &[u32], weights: &[i64], counts: &[u32]) -> u64
+    requires { ⌜ T (wellFormed (memoryOf head (now terms) (now weights) (now counts))) ⌝ }
+    ensures { λ r. ⌜ r ≡ codeOf (head .variables) (linesIn head (now (terms .entry)) (now (weights .entry)) (now (counts .entry))) ⌝ }
+{
+    let lines = head.lines as usize;
+    let mut text = [0u8; 8448];
+    let mut code = start();
+    let mut number: usize = 0;
+    while number <= lines {
+        let size = put_text(&mut text, head, terms, weights, counts, number);
+        code = add_bytes(code, &text[..size]);
+        number += 1;
+    }
+    code
+}
