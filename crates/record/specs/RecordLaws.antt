@@ -1,14 +1,16 @@
--- Laws of records: k bytes make a number below 256 ^ k, every such number is read back from its k bytes, and distinct numbers of 64 bits are distinct signed numbers. Assumes nothing.
-use mathlib.Core.Path.{_≡_, sym}
+-- Laws of records: k bytes make a number below 256 ^ k, every such number is read back from its k bytes, distinct numbers of 64 bits are distinct
+-- signed numbers, and a body is the same in the first bytes, where it ends within them. Assumes nothing.
+use mathlib.Core.Path.{_≡_, refl, sym, ap}
 use mathlib.Core.Bool.{Bool, true, false, cond}
 use mathlib.Core.List.{List, [], _∷_, _++_}
-use Prim.Native.Nat.{ℕ, zero, suc, _-_, _/_, _%_, _^_, _<_}
+use Prim.Native.Nat.{ℕ, zero, suc, _+_, _-_, _*_, _/_, _%_, _^_, _≤_, _<_}
 use native.Mathlib.Nat.{pow-zero, pow-succ'}
 use native.Mathlib.Omega.{arith}
-use lib.Dec.{ltb}
+use lib.Dec.{T, leb, le→leb, ltb}
 use lib.IntN.{pos, negsuc, pos-ne-negsuc}
-use lib.ListN.{drop}
-use Rattle.record.specs.Record.{littleEndian, numberAt, signed}
+use lib.ListN.{length, take, drop}
+use lib.Seq.{length-take-le}
+use Rattle.record.specs.Record.{littleEndian, numberAt, signed, whole}
 
 -- every element is a byte
 abbrev pub Bytes : List ℕ → Type 0
@@ -52,3 +54,26 @@ signed-injective x y p q e = go (ltb x (2 ^ 63)) (ltb y (2 ^ 63)) e
     go true false e = absurd (pos-ne-negsuc x (2 ^ 64 - 1 - y) e)
     go false true e = absurd (pos-ne-negsuc y (2 ^ 64 - 1 - x) (sym e))
     go false false e = let d : 2 ^ 64 - 1 - x ≡ 2 ^ 64 - 1 - y = cc in omega arith
+
+-- ---- the first K bytes hold the same body, where it ends within them
+pub little-take : (k K : ℕ) (s : List ℕ) → k ≤ K → littleEndian k (take K s) ≡ littleEndian k s
+unfolding littleEndian
+little-take zero K s h = refl
+little-take (suc k) zero s h = let x : ⊥ = omega arith in absurd x
+little-take (suc k) (suc K) [] h = refl
+little-take (suc k) (suc K) (b ∷ s) h = ap (λ (x : ℕ). b + 256 * x) (little-take k K s (omega arith))
+
+pub number-take : (k a K : ℕ) (s : List ℕ) → a + k ≤ K → numberAt k (take K s) a ≡ numberAt k s a
+number-take k zero K s h = little-take k K s (omega arith)
+number-take k (suc a) zero s h = let x : ⊥ = omega arith in absurd x
+number-take k (suc a) (suc K) [] h = refl
+number-take k (suc a) (suc K) (b ∷ s) h = number-take k a K s (omega arith)
+
+one-test : (a b : Bool) → T a → T b → a ≡ b
+one-test true true h k = refl
+one-test true false h k = absurd k
+one-test false b h k = absurd h
+
+pub whole-take : (k a K : ℕ) (s : List ℕ) → a + k ≤ K → K ≤ length s → whole k (take K s) a ≡ whole k s a
+whole-take k a K s h l = one-test (leb (a + k) (length (take K s))) (leb (a + k) (length s))
+    (le→leb (a + k) (length (take K s)) (omega (arith, length-take-le K s l))) (le→leb (a + k) (length s) (omega arith))

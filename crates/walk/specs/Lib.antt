@@ -1,0 +1,4 @@
+pub mod Walk
+pub mod Work
+pub mod WalkLaws
+pub mod WorkLaws
