@@ -1,4 +1,6 @@
 pub mod Problem
 pub mod Entries
+pub mod Held
 pub mod ProblemLaws
 pub mod RefusedLaws
+pub mod OneListing

@@ -5,61 +5,66 @@ use mathlib.Core.Bool.{Bool, true, false, cond, not, _&&_, Bool·beq, true≢fal
 use mathlib.Core.List.{List, [], _∷_, _++_}
 use Prim.Native.Nat.{ℕ, zero, suc, _+_, _^_, _≤_, _<_}
 use native.Mathlib.Omega.{arith}
-use lib.Dec.{T, leb, leb→le, ltb, ltb→lt, lt→ltb, nltb→le, eqb}
+use lib.Dec.{T, leb, leb→le, ltb, ltb→lt, nltb→le, eqb}
 use lib.IntN.{ℤ, pos, negsuc, _+ℤ_, +ℤ-idl}
 use lib.ListN.{length, getD}
-use Rattle.run.specs.Boolean as B
 use Rattle.run.specs.Boolean.{bool-ext, is-true, of-true, both, cond-ind}
-use Rattle.run.specs.Run.{sorted, Sorted}
-use Rattle.run.specs.RunLaws.{holds-sorted, sorted-holds}
-use Rattle.term.specs.Term.{before}
-use Rattle.polynomial.specs.Polynomial.{eval, orderOf, sumOf, clauseOf, Below}
-use Rattle.polynomial.specs.PolynomialLaws as P
-use Rattle.polynomial.specs.PolynomialLaws.{written, sum-ordered, sum-below}
+use Rattle.polynomial.specs.Polynomial.{eval, orderOf, sumOf, clauseOf}
 use Rattle.polynomial.specs.ClauseLaws.{clause-ordered, clause-below}
 use Rattle.configuration.specs.Weight.{isZero, isNegative, share}
-use Rattle.configuration.specs.Configuration.{Line, line, some, same, total, weight, keep, fold, add, addAll, Every, below, isPolynomial, linesFit, weightsFit, anyNegative}
+use Rattle.configuration.specs.Configuration.{Line, line, some, same, total, weight, keep, fold, add, addAll, Every, isPolynomial, linesFit, weightsFit, anyNegative}
 use Rattle.configuration.specs.Sums.{solve, v, _⊞_}
+use Rattle.configuration.specs.FormLaws.{polynomial-below, polynomial-sorted, polynomial-is, none-polynomial, sum-sign}
 use Rattle.configuration.specs.ConfigurationLaws.{order-ind, same-is, same-self, same-none, weight-all, all-ordered, unique, all-fit}
 use Rattle.configuration.specs.Memory.{Memory, linesOf, sized, wellFormed}
 use Rattle.configuration.specs.MemoryLaws.{every-append, fits-short, there-and-back, image-wellFormed}
-use Rattle.configuration.specs.Replacement as S
-use Rattle.configuration.specs.Replacement.{taken, refused, within}
+use Rattle.configuration.specs.Replacement.{taken, within}
 use Rattle.record.specs.Record.{whole, numberAt, signedAt}
-use Rattle.problem.specs.Problem.{Progress, begun, Record, accepted, turnedDown, unless, past, weightFits, folded, onVariables, onTerm, onWeight, onClause, onRecord, filed, refusedAt, Filed, ended, next, filing, Left, leaves, fileProblem}
-use Rattle.problem.specs.Entries.{entryOf, onward, entries, agreesBelow, agrees}
+use Rattle.walk.specs.Walk.{Outcome, accepted, turnedDown, mapped, Progress, begun, past, Walked, walk, readAll, gathered}
+use Rattle.walk.specs.WalkLaws.{unless-ind, Kept, walk-ind, walk-keeps}
+use Rattle.walk.specs.WorkLaws.{term-ind, term-sum}
+use Rattle.problem.specs.Problem.{State, empty, having, weightFits, folded, onVariables, onTerm, onWeight, onClause, onRecord, filing, filed, Left, leaves, fileProblem}
+use Rattle.problem.specs.Entries.{entryOf, entries, agreesBelow, agrees}
+use Rattle.run.specs.Boolean as B
+use Rattle.polynomial.specs.PolynomialLaws as P
+use Rattle.configuration.specs.Replacement as S
 
 -- ---- one record: what an accepted one passed, and what it adds
-pub unless-ind : (R : Record → Type 0) (b : Bool) (n : ℕ) {r : Record} → ((n : ℕ) → R (turnedDown n)) → (T b → R r) → R (unless b n r)
-unless-ind R true n nay yea = yea tt
-unless-ind R false n nay yea = nay n
-
-folded-ind : (R : Record → Type 0) (p : Progress) (size : ℕ) (work : List ℕ) (L : List Line) → ((n : ℕ) → R (turnedDown n))
-    → (length L ≤ 128 → T (weightsFit L) → R (past p size work L)) → R (folded p size work (within L))
+folded-ind : (R : Outcome (Progress State) → Type 0) (p : Progress State) (size : ℕ) (work : List ℕ) (L : List Line) → ((n : ℕ) → R (turnedDown n))
+    → (length L ≤ 128 → T (weightsFit L) → R (accepted (past p size (having work L (p .state))))) → R (folded p size work (within L))
 unfolding within
 folded-ind R p size work L nay yea = go (leb (length L) 128) (weightsFit L) (λ a b. yea (leb→le (length L) 128 a) b)
   where
-    go : (a b : Bool) → (T a → T b → R (past p size work L)) → R (folded p size work (S.unless a 10 (S.unless b 11 (taken L))))
+    go : (a b : Bool) → (T a → T b → R (accepted (past p size (having work L (p .state))))) → R (folded p size work (S.unless a 10 (S.unless b 11 (taken L))))
     go true true k = k tt tt
     go true false k = nay 11
     go false b k = nay 10
 
-module _ (s : List ℕ) (p : Progress) (R : List Line → Record → Type 0) where
+module _ (s : List ℕ) (p : Progress State) (R : List Line → Outcome (Progress State) → Type 0) where
   pub record-ind : ((C : List Line) (n : ℕ) → R C (turnedDown n))
-      → (T (not (p .started)) → T (whole 1 s (p .at + 1)) → numberAt 1 s (p .at + 1) ≤ 32
-      → R [] (accepted (record { started = true; variables = numberAt 1 s (p .at + 1); work = []; lines = []; at = p .at + 2; accepted = suc (p .accepted) })))
-      → ((t : ℕ) → T (p .started) → T (whole 4 s (p .at + 1)) → t < 2 ^ (p .variables) → T (leb (length (sumOf (t ∷ []) (p .work))) 64)
-      → R [] (past p 5 (sumOf (t ∷ []) (p .work)) (p .lines)))
-      → ((w : ℤ) → T (p .started) → T (whole 8 s (p .at + 1)) → T (weightFits w)
-      → length (add (p .work) w (p .lines)) ≤ 128 → T (weightsFit (add (p .work) w (p .lines)))
-      → R (line (p .work) w ∷ []) (past p 9 [] (add (p .work) w (p .lines))))
-      → ((a b : ℕ) (w : ℤ) → T (p .started) → T (whole 16 s (p .at + 1)) → a < 2 ^ (p .variables) → b < 2 ^ (p .variables) → T (weightFits w)
-      → T (leb (length (clauseOf a b)) 64) → length (add (clauseOf a b) w (p .lines)) ≤ 128 → T (weightsFit (add (clauseOf a b) w (p .lines)))
-      → R (line (clauseOf a b) w ∷ []) (past p 17 (p .work) (add (clauseOf a b) w (p .lines))))
+      → (T (not (p .state .started)) → T (whole 1 s (p .at + 1)) → numberAt 1 s (p .at + 1) ≤ 32
+      → R [] (accepted (past p 2 (record { started = true; variables = numberAt 1 s (p .at + 1); work = []; lines = [] }))))
+      → ((t : ℕ) → T (p .state .started) → T (whole 4 s (p .at + 1)) → t < 2 ^ (p .state .variables) → T (leb (length (sumOf (t ∷ []) (p .state .work))) 64)
+      → R [] (accepted (past p 5 (having (sumOf (t ∷ []) (p .state .work)) (p .state .lines) (p .state)))))
+      → ((w : ℤ) → T (p .state .started) → T (whole 8 s (p .at + 1)) → T (weightFits w)
+      → length (add (p .state .work) w (p .state .lines)) ≤ 128 → T (weightsFit (add (p .state .work) w (p .state .lines)))
+      → R (line (p .state .work) w ∷ []) (accepted (past p 9 (having [] (add (p .state .work) w (p .state .lines)) (p .state)))))
+      → ((a b : ℕ) (w : ℤ) → T (p .state .started) → T (whole 16 s (p .at + 1)) → a < 2 ^ (p .state .variables) → b < 2 ^ (p .state .variables) → T (weightFits w)
+      → T (leb (length (clauseOf a b)) 64) → length (add (clauseOf a b) w (p .state .lines)) ≤ 128 → T (weightsFit (add (clauseOf a b) w (p .state .lines)))
+      → R (line (clauseOf a b) w ∷ []) (accepted (past p 17 (having (p .state .work) (add (clauseOf a b) w (p .state .lines)) (p .state)))))
       → R (entryOf s p) (onRecord s p)
   unfolding entryOf onRecord
   record-ind nay onV onM onW onC = go (eqb (getD s (p .at) 0) 86) (eqb (getD s (p .at) 0) 77) (eqb (getD s (p .at) 0) 87) (eqb (getD s (p .at) 0) 67)
     where
+      n : ℕ
+      n = p .state .variables
+
+      f : List ℕ
+      f = p .state .work
+
+      L : List Line
+      L = p .state .lines
+
       x : ℕ
       x = numberAt 4 s (p .at + 1)
 
@@ -73,68 +78,41 @@ module _ (s : List ℕ) (p : Progress) (R : List Line → Record → Type 0) whe
       w = signedAt s (p .at + 9)
 
       go : (a b d e : Bool)
-          → R (cond a [] (cond b [] (cond d (line (p .work) u ∷ []) (cond e (line (clauseOf x y) w ∷ []) []))))
+          → R (cond a [] (cond b [] (cond d (line f u ∷ []) (cond e (line (clauseOf x y) w ∷ []) []))))
           (cond a (onVariables s p) (cond b (onTerm s p) (cond d (onWeight s p) (cond e (onClause s p) (turnedDown 4)))))
       go true b d e =
-          unless-ind (R []) (not (p .started)) 4 (nay []) (λ h. unless-ind (R []) (whole 1 s (p .at + 1)) 3 (nay []) (λ i.
+          unless-ind (R []) (not (p .state .started)) 4 (nay []) (λ h. unless-ind (R []) (whole 1 s (p .at + 1)) 3 (nay []) (λ i.
           unless-ind (R []) (leb (numberAt 1 s (p .at + 1)) 32) 5 (nay []) (λ j. onV h i (leb→le (numberAt 1 s (p .at + 1)) 32 j))))
       go false true d e =
-          unless-ind (R []) (p .started) 4 (nay []) (λ h. unless-ind (R []) (whole 4 s (p .at + 1)) 3 (nay []) (λ i.
-          unless-ind (R []) (ltb x (2 ^ (p .variables))) 6 (nay []) (λ j. unless-ind (R []) (leb (length (sumOf (x ∷ []) (p .work))) 64) 7 (nay []) (λ k.
-          onM x h i (ltb→lt x (2 ^ (p .variables)) j) k))))
+          unless-ind (R []) (p .state .started) 4 (nay []) (λ h.
+          term-ind n s (p .at + 1) f (λ r. R [] (mapped (λ g. past p 5 (having g L (p .state))) r)) (nay []) (λ i j k. onM x h i j k))
       go false false true e =
-          let C : List Line = line (p .work) u ∷ [] in
-          unless-ind (R C) (p .started) 4 (nay C) (λ h. unless-ind (R C) (whole 8 s (p .at + 1)) 3 (nay C) (λ i. unless-ind (R C) (weightFits u) 8 (nay C) (λ j.
-          folded-ind (R C) p 9 [] (add (p .work) u (p .lines)) (nay C) (λ k l. onW u h i j k l))))
+          let C : List Line = line f u ∷ [] in
+          unless-ind (R C) (p .state .started) 4 (nay C) (λ h. unless-ind (R C) (whole 8 s (p .at + 1)) 3 (nay C) (λ i. unless-ind (R C) (weightFits u) 8 (nay C) (λ j.
+          folded-ind (R C) p 9 [] (add f u L) (nay C) (λ k l. onW u h i j k l))))
       go false false false true =
           let C : List Line = line (clauseOf x y) w ∷ [] in
-          unless-ind (R C) (p .started) 4 (nay C) (λ h. unless-ind (R C) (whole 16 s (p .at + 1)) 3 (nay C) (λ i.
-          unless-ind (R C) (ltb x (2 ^ (p .variables)) && ltb y (2 ^ (p .variables))) 6 (nay C) (λ j. unless-ind (R C) (weightFits w) 8 (nay C) (λ k.
-          unless-ind (R C) (leb (length (clauseOf x y)) 64) 7 (nay C) (λ l. folded-ind (R C) p 17 (p .work) (add (clauseOf x y) w (p .lines)) (nay C)
-          (λ m o. onC x y w h i (ltb→lt x (2 ^ (p .variables)) (B.left (ltb x (2 ^ (p .variables))) (ltb y (2 ^ (p .variables))) j))
-          (ltb→lt y (2 ^ (p .variables)) (B.right (ltb x (2 ^ (p .variables))) (ltb y (2 ^ (p .variables))) j)) k l m o))))))
+          unless-ind (R C) (p .state .started) 4 (nay C) (λ h. unless-ind (R C) (whole 16 s (p .at + 1)) 3 (nay C) (λ i.
+          unless-ind (R C) (ltb x (2 ^ n) && ltb y (2 ^ n)) 6 (nay C) (λ j. unless-ind (R C) (weightFits w) 8 (nay C) (λ k.
+          unless-ind (R C) (leb (length (clauseOf x y)) 64) 7 (nay C) (λ l. folded-ind (R C) p 17 f (add (clauseOf x y) w L) (nay C)
+          (λ m o. onC x y w h i (ltb→lt x (2 ^ n) (B.left (ltb x (2 ^ n)) (ltb y (2 ^ n)) j)) (ltb→lt y (2 ^ n) (B.right (ltb x (2 ^ n)) (ltb y (2 ^ n)) j)) k l m o))))))
       go false false false false = nay [] 4
-
--- what holds of the progress after an accepted record
-abbrev pub Kept : (Progress → Type 0) → Record → Type 0
-Kept Q (accepted q) = Q q
-Kept Q (turnedDown n) = Unit {0}
-
--- ---- all records: what holds where a filing ends or is refused, and is carried back by each accepted record, holds of it and its entries
-pub walk-ind : (Q : Progress → Filed → List Line → Type 0) (s : List ℕ)
-    → ((p : Progress) → Q p (ended p) [])
-    → ((p : Progress) (n : ℕ) → onRecord s p ≡ turnedDown n → Q p (record { progress = p; told = refusedAt (suc (p .accepted)) n }) [])
-    → ((p q : Progress) (F : Filed) (C : List Line) → onRecord s p ≡ accepted q → Q q F C → Q p F (entryOf s p ++ C))
-    → (k : ℕ) (p : Progress) → Q p (filing k s p) (entries k s p)
-unfolding filing entries
-walk-ind Q s atEnd atRefusal back zero p = atEnd p
-walk-ind Q s atEnd atRefusal back (suc k) p = go (leb (length s) (p .at)) (onRecord s p) refl (λ q. walk-ind Q s atEnd atRefusal back k q)
-  where
-    go : (b : Bool) (r : Record) → onRecord s p ≡ r → ((q : Progress) → Q q (filing k s q) (entries k s q))
-        → Q p (cond b (ended p) (next p (λ q. filing k s q) r)) (cond b [] (onward (λ q. entries k s q) (entryOf s p) r))
-    go true r e rest = atEnd p
-    go false (accepted q) e rest = back p q (filing k s q) (entries k s q) e (rest q)
-    go false (turnedDown n) e rest = atRefusal p n e
-
--- what every accepted record keeps holds of what a filing leaves
-pub filing-keeps : (Q : Progress → Type 0) (s : List ℕ) → ((p q : Progress) → onRecord s p ≡ accepted q → Q p → Q q)
-    → (k : ℕ) (p : Progress) → Q p → Q ((filing k s p) .progress)
-filing-keeps Q s keeps = walk-ind (λ p F C. Q p → Q (F .progress)) s (λ p h. h) (λ p n e h. h) (λ p q F C e rest h. rest (keeps p q e h))
 
 -- ---- the configuration is the folded sum of the entries
 -- before V there are no lines
-abbrev pub Fresh : Progress → Type 0
-Fresh p = T (not (p .started)) → p .lines ≡ []
+abbrev pub Fresh : State → Type 0
+Fresh x = T (not (x .started)) → x .lines ≡ []
 
 no-more : (b : Bool) → T b → T (not b) → ⊥
 no-more true h k = k
 no-more false h k = h
 
 -- an accepted record adds its entry, and V has come
-pub record-lines : (s : List ℕ) (p q : Progress) → Fresh p → onRecord s p ≡ accepted q → (q .lines ≡ addAll (entryOf s p) (p .lines)) × T (q .started)
+pub record-lines : (s : List ℕ) (p q : Progress State) → Fresh (p .state) → onRecord s p ≡ accepted q
+    → (q .state .lines ≡ addAll (entryOf s p) (p .state .lines)) × T (q .state .started)
 unfolding addAll
 record-lines s p q f e =
-    rw e at (record-ind s p (λ C r. Kept (λ q. (q .lines ≡ addAll C (p .lines)) × T (q .started)) r)
+    rw e at (record-ind s p (λ C r. Kept (λ q. (q .state .lines ≡ addAll C (p .state .lines)) × T (q .state .started)) r)
     (λ C n. tt) (λ h i j. (sym (f h), tt)) (λ t h i j k. (refl, tt)) (λ w h i j k l. (refl, tt)) (λ a b w h i j k l m n o. (refl, tt)))
 
 all-append : (C D L : List Line) → addAll (C ++ D) L ≡ addAll D (addAll C L)
@@ -142,43 +120,15 @@ unfolding addAll
 all-append [] D L = refl
 all-append (line f w ∷ C) D L = all-append C D (add f w L)
 
-pub filing-lines : (k : ℕ) (s : List ℕ) (p : Progress) → Fresh p → (filing k s p) .progress .lines ≡ addAll (entries k s p) (p .lines)
+pub filing-lines : (k : ℕ) (s : List ℕ) (p : Progress State) → Fresh (p .state)
+    → (walk filing k s p) .reached .state .lines ≡ addAll (gathered filing entryOf k s p) (p .state .lines)
 unfolding addAll
-filing-lines k s = walk-ind (λ p F C. Fresh p → F .progress .lines ≡ addAll C (p .lines)) s (λ p f. refl) (λ p n e f. refl)
+filing-lines k s = walk-ind filing entryOf (λ p F C. Fresh (p .state) → F .reached .state .lines ≡ addAll C (p .state .lines)) s (λ p f. refl) (λ p n e f. refl)
     (λ p q F C e rest f.
-    let d : (q .lines ≡ addAll (entryOf s p) (p .lines)) × T (q .started) = record-lines s p q f e in
-    rest (λ h. absurd (no-more (q .started) (d .1) h)) ∙ ap (addAll C) (d .0) ∙ sym (all-append (entryOf s p) C (p .lines))) k
-
--- ---- polynomials of n variables
-below-holds : (n : ℕ) (f : List ℕ) → T (below n f) → Below n f
-unfolding below
-below-holds n [] h = tt
-below-holds n (t ∷ f) h = (ltb→lt t (2 ^ n) (B.left (ltb t (2 ^ n)) (below n f) h), below-holds n f (B.right (ltb t (2 ^ n)) (below n f) h))
-
-holds-below : (n : ℕ) (f : List ℕ) → Below n f → T (below n f)
-unfolding below
-holds-below n [] h = tt
-holds-below n (t ∷ f) h = both (ltb t (2 ^ n)) (below n f) (lt→ltb t (2 ^ n) (h .0)) (holds-below n f (h .1))
-
-polynomial-below : (n : ℕ) (f : List ℕ) → T (isPolynomial n f) → Below n f
-polynomial-below n f h = below-holds n f (B.left (below n f) (sorted before f) (B.right (leb (length f) 64) (below n f && sorted before f) h))
-
-polynomial-sorted : (n : ℕ) (f : List ℕ) → T (isPolynomial n f) → Sorted before f
-polynomial-sorted n f h = sorted-holds before written f (B.right (below n f) (sorted before f) (B.right (leb (length f) 64) (below n f && sorted before f) h))
-
-polynomial-is : (n : ℕ) (f : List ℕ) → T (leb (length f) 64) → Below n f → Sorted before f → T (isPolynomial n f)
-polynomial-is n f l b o =
-    both (leb (length f) 64) (below n f && sorted before f) l (both (below n f) (sorted before f) (holds-below n f b) (holds-sorted before written f o))
-
-none-polynomial : (n : ℕ) → T (isPolynomial n [])
-none-polynomial n = polynomial-is n [] tt tt tt
+    let d : (q .state .lines ≡ addAll (entryOf s p) (p .state .lines)) × T (q .state .started) = record-lines s p q f e in
+    rest (λ h. absurd (no-more (q .state .started) (d .1) h)) ∙ ap (addAll C) (d .0) ∙ sym (all-append (entryOf s p) C (p .state .lines))) k
 
 -- ---- signs: a positive amount makes no line negative
-sum-sign : (a b : ℤ) → isNegative a ≡ false → isNegative b ≡ false → isNegative (a +ℤ b) ≡ false
-sum-sign (pos a) (pos b) h k = refl
-sum-sign (pos a) (negsuc b) h k = absurd (true≢false k)
-sum-sign (negsuc a) b h k = absurd (true≢false h)
-
 filing-sign : (w : ℤ) → T (weightFits w) → isNegative w ≡ false
 filing-sign (pos n) h = refl
 filing-sign (negsuc n) h = absurd h
@@ -210,80 +160,78 @@ unfolding add
 add-sign [] w L h k = k
 add-sign (t ∷ f) w L h k = fold-sign (t ∷ f) w L h k
 
--- ---- what holds at every progress
-pub record Sound (p : Progress) : Type 0 where
-  pub few : p .variables ≤ 32
-  pub polynomial : T (isPolynomial (p .variables) (p .work))
-  pub fit : T (linesFit (p .variables) (p .lines))
-  pub room : length (p .lines) ≤ 128
-  pub weights : T (weightsFit (p .lines))
-  pub signs : anyNegative (p .lines) ≡ false
-  pub fresh : T (not (p .started)) → (p .variables ≡ 0) × ((p .work ≡ []) × (p .lines ≡ []))
+-- ---- what holds of every state
+pub record Sound (x : State) : Type 0 where
+  pub few : x .variables ≤ 32
+  pub polynomial : T (isPolynomial (x .variables) (x .work))
+  pub fit : T (linesFit (x .variables) (x .lines))
+  pub room : length (x .lines) ≤ 128
+  pub weights : T (weightsFit (x .lines))
+  pub signs : anyNegative (x .lines) ≡ false
+  pub fresh : T (not (x .started)) → (x .variables ≡ 0) × ((x .work ≡ []) × (x .lines ≡ []))
 
-pub sound-begun : Sound begun
+pub sound-empty : Sound empty
 unfolding linesFit weightsFit anyNegative
-sound-begun = record { few = omega arith; polynomial = none-polynomial 0; fit = tt; room = omega arith; weights = tt; signs = refl; fresh = λ h. (refl, (refl, refl)) }
+sound-empty = record { few = omega arith; polynomial = none-polynomial 0; fit = tt; room = omega arith; weights = tt; signs = refl; fresh = λ h. (refl, (refl, refl)) }
 
 -- a weighted polynomial is added, within the limits
-sound-added : (p : Progress) (size : ℕ) (work f : List ℕ) (w : ℤ) → Sound p → T (isPolynomial (p .variables) work) → T (isPolynomial (p .variables) f) → T (weightFits w)
-    → length (add f w (p .lines)) ≤ 128 → T (weightsFit (add f w (p .lines))) → Kept Sound (past p size work (add f w (p .lines)))
+sound-added : (x : State) (work f : List ℕ) (w : ℤ) → Sound x → T (isPolynomial (x .variables) work) → T (isPolynomial (x .variables) f) → T (weightFits w)
+    → length (add f w (x .lines)) ≤ 128 → T (weightsFit (add f w (x .lines))) → Sound (having work (add f w (x .lines)) x)
 unfolding addAll
-sound-added p size work f w o g h i j k = record {
+sound-added x work f w o g h i j k = record {
   few = o .few;
   polynomial = g;
-  fit = all-fit (p .variables) (line f w ∷ []) (p .lines) (h, tt) (o .fit);
+  fit = all-fit (x .variables) (line f w ∷ []) (x .lines) (h, tt) (o .fit);
   room = j;
   weights = k;
-  signs = add-sign f w (p .lines) (filing-sign w i) (o .signs);
+  signs = add-sign f w (x .lines) (filing-sign w i) (o .signs);
   fresh = λ n. absurd n;
 }
 
 pub clause-polynomial : (n a b : ℕ) → a < 2 ^ n → b < 2 ^ n → T (leb (length (clauseOf a b)) 64) → T (isPolynomial n (clauseOf a b))
 clause-polynomial n a b h k l = polynomial-is n (clauseOf a b) l (clause-below n a b h k) (clause-ordered a b)
 
-pub sound-record : (s : List ℕ) (p q : Progress) → onRecord s p ≡ accepted q → Sound p → Sound q
+pub sound-record : (s : List ℕ) (p q : Progress State) → onRecord s p ≡ accepted q → Sound (p .state) → Sound (q .state)
 unfolding linesFit weightsFit anyNegative
-sound-record s p q e o = rw e at (record-ind s p (λ C r. Kept Sound r)
+sound-record s p q e o = rw e at (record-ind s p (λ C r. Kept (λ q. Sound (q .state)) r)
     (λ C n. tt)
     (λ h i j. record { few = j; polynomial = none-polynomial (numberAt 1 s (p .at + 1)); fit = tt; room = omega arith; weights = tt; signs = refl; fresh = λ n. absurd n })
     (λ t h i j k. record {
       few = o .few;
-      polynomial = polynomial-is (p .variables) (sumOf (t ∷ []) (p .work)) k
-          (sum-below (p .variables) (t ∷ []) (p .work) (j, tt) (polynomial-below (p .variables) (p .work) (o .polynomial))) (sum-ordered (t ∷ []) (p .work));
+      polynomial = term-sum (p .state .variables) t (p .state .work) j k (o .polynomial);
       fit = o .fit;
       room = o .room;
       weights = o .weights;
       signs = o .signs;
       fresh = λ n. absurd n;
     })
-    (λ w h i j k l. sound-added p 9 [] (p .work) w o (none-polynomial (p .variables)) (o .polynomial) j k l)
-    (λ a b w h i j k l m n r. sound-added p 17 (p .work) (clauseOf a b) w o (o .polynomial) (clause-polynomial (p .variables) a b j k m) l n r))
+    (λ w h i j k l. sound-added (p .state) [] (p .state .work) w o (none-polynomial (p .state .variables)) (o .polynomial) j k l)
+    (λ a b w h i j k l m n r. sound-added (p .state) (p .state .work) (clauseOf a b) w o (o .polynomial) (clause-polynomial (p .state .variables) a b j k m) l n r))
 
-pub sound-filing : (k : ℕ) (s : List ℕ) (p : Progress) → Sound p → Sound ((filing k s p) .progress)
-sound-filing k s p o = filing-keeps Sound s (λ p q e h. sound-record s p q e h) k p o
+pub sound-filing : (k : ℕ) (s : List ℕ) (p : Progress State) → Sound (p .state) → Sound ((walk filing k s p) .reached .state)
+sound-filing k s p o = walk-keeps filing (λ q. Sound (q .state)) s (λ p q e h. sound-record s p q e h) k p o
 
 -- ---- what is filed
-pub filed-is : (s : List ℕ) (m : Memory) → T (sized 128 m) → fileProblem s m ≡ leaves (filing (length s) s begun)
+pub filed-is : (s : List ℕ) (m : Memory) → T (sized 128 m) → fileProblem s m ≡ leaves (readAll filing s empty)
 unfolding fileProblem
 filed-is s m h = rw (is-true (sized 128 m) h)
 
-filed-sound : (s : List ℕ) → Sound ((filing (length s) s begun) .progress)
-filed-sound s = sound-filing (length s) s begun sound-begun
+filed-sound : (s : List ℕ) → Sound ((readAll filing s empty) .reached .state)
+filed-sound s = sound-filing (length s) s (begun empty) sound-empty
 
 pub filed-wellFormed : (s : List ℕ) (m : Memory) → T (sized 128 m) → T (wellFormed (fileProblem s m .memory))
 filed-wellFormed s m h =
-    let q : Progress = filing (length s) s begun .progress in
-    let o : Sound q = filed-sound s in
-    rw (filed-is s m h) (image-wellFormed (q .variables) (q .lines) (o .room) (o .few) (o .fit) (o .weights))
+    let x : State = readAll filing s empty .reached .state in
+    let o : Sound x = filed-sound s in
+    rw (filed-is s m h) (image-wellFormed (x .variables) (x .lines) (o .room) (o .few) (o .fit) (o .weights))
 
-pub filed-lines : (s : List ℕ) (m : Memory) → T (sized 128 m) → linesOf (fileProblem s m .memory) ≡ filing (length s) s begun .progress .lines
+pub filed-lines : (s : List ℕ) (m : Memory) → T (sized 128 m) → linesOf (fileProblem s m .memory) ≡ readAll filing s empty .reached .state .lines
 filed-lines s m h =
-    let q : Progress = filing (length s) s begun .progress in
-    let o : Sound q = filed-sound s in
-    rw (filed-is s m h) (there-and-back 128 (q .variables) (q .lines) (o .room) (fits-short (q .variables) (q .lines) (o .fit)))
+    let x : State = readAll filing s empty .reached .state in
+    rw (filed-is s m h) (there-and-back 128 (x .variables) (x .lines) (fits-short (x .variables) (x .lines) (filed-sound s .fit)))
 
-pub filed-entries : (s : List ℕ) (m : Memory) → T (sized 128 m) → linesOf (fileProblem s m .memory) ≡ addAll (entries (length s) s begun) []
-filed-entries s m h = filed-lines s m h ∙ filing-lines (length s) s begun (λ z. refl)
+pub filed-entries : (s : List ℕ) (m : Memory) → T (sized 128 m) → linesOf (fileProblem s m .memory) ≡ addAll (entries s) []
+filed-entries s m h = filed-lines s m h ∙ filing-lines (length s) s (begun empty) (λ z. refl)
 
 pub filed-positive : (s : List ℕ) (m : Memory) → T (sized 128 m) → anyNegative (linesOf (fileProblem s m .memory)) ≡ false
 filed-positive s m h = rw (filed-lines s m h) (filed-sound s .signs)
@@ -365,60 +313,66 @@ module _ (n : ℕ) (C D : List Line) (c : Every (λ f. T (isPolynomial n f)) C) 
       (λ p s. weight-all p s C [] ∙ ap (λ (z : ℤ). weight [] p +ℤ z) (same-weight p s) ∙ sym (weight-all p s D []))
 
 -- ---- the entries are polynomials of the variables that are filed
-entry-fit : (s : List ℕ) (p q : Progress) → Sound p → onRecord s p ≡ accepted q → Every (λ f. T (isPolynomial (q .variables) f)) (entryOf s p)
-entry-fit s p q o e = rw e at (record-ind s p (λ C r. Kept (λ q. Every (λ f. T (isPolynomial (q .variables) f)) C) r)
-    (λ C n. tt) (λ h i j. tt) (λ t h i j k. tt) (λ w h i j k l. (o .polynomial, tt))
-    (λ a b w h i j k l m n r. (clause-polynomial (p .variables) a b j k m, tt)))
-
--- V comes once
-record-variables : (s : List ℕ) (p q : Progress) → T (p .started) → onRecord s p ≡ accepted q → (q .variables ≡ p .variables) × T (q .started)
-record-variables s p q b e = rw e at (record-ind s p (λ C r. Kept (λ q. (q .variables ≡ p .variables) × T (q .started)) r)
-    (λ C n. tt) (λ h i j. absurd (no-more (p .started) b h)) (λ t h i j k. (refl, tt)) (λ w h i j k l. (refl, tt)) (λ a b w h i j k l m n o. (refl, tt)))
-
 abbrev pub Fitting : ℕ → List Line → Type 0
 Fitting n C = Every (λ f. T (isPolynomial n f)) C
 
+entry-fit : (s : List ℕ) (p q : Progress State) → Sound (p .state) → onRecord s p ≡ accepted q → Fitting (q .state .variables) (entryOf s p)
+entry-fit s p q o e = rw e at (record-ind s p (λ C r. Kept (λ q. Fitting (q .state .variables) C) r)
+    (λ C n. tt) (λ h i j. tt) (λ t h i j k. tt) (λ w h i j k l. (o .polynomial, tt))
+    (λ a b w h i j k l m n r. (clause-polynomial (p .state .variables) a b j k m, tt)))
+
+-- V comes once
+record-variables : (s : List ℕ) (p q : Progress State) → T (p .state .started) → onRecord s p ≡ accepted q
+    → (q .state .variables ≡ p .state .variables) × T (q .state .started)
+record-variables s p q b e = rw e at (record-ind s p (λ C r. Kept (λ q. (q .state .variables ≡ p .state .variables) × T (q .state .started)) r)
+    (λ C n. tt) (λ h i j. absurd (no-more (p .state .started) b h)) (λ t h i j k. (refl, tt)) (λ w h i j k l. (refl, tt)) (λ a b w h i j k l m n o. (refl, tt)))
+
 -- the variables stay from V on
-fitting-walk : (s : List ℕ) (k : ℕ) (p : Progress)
-    → (T (p .started) → (filing k s p) .progress .variables ≡ p .variables) × (Sound p → Fitting ((filing k s p) .progress .variables) (entries k s p))
-fitting-walk s = walk-ind (λ p F C. (T (p .started) → F .progress .variables ≡ p .variables) × (Sound p → Fitting (F .progress .variables) C)) s
+fitting-walk : (s : List ℕ) (k : ℕ) (p : Progress State)
+    → (T (p .state .started) → (walk filing k s p) .reached .state .variables ≡ p .state .variables)
+    × (Sound (p .state) → Fitting ((walk filing k s p) .reached .state .variables) (gathered filing entryOf k s p))
+fitting-walk s = walk-ind filing entryOf
+    (λ p F C. (T (p .state .started) → F .reached .state .variables ≡ p .state .variables) × (Sound (p .state) → Fitting (F .reached .state .variables) C)) s
     (λ p. (λ h. refl, λ o. tt)) (λ p n e. (λ h. refl, λ o. tt)) (λ p q F C e rest. (
       λ h. rest .0 (record-variables s p q h e .1) ∙ record-variables s p q h e .0,
-      λ o. every-append (λ f. T (isPolynomial (F .progress .variables) f)) (entryOf s p) C
+      λ o. every-append (λ f. T (isPolynomial (F .reached .state .variables) f)) (entryOf s p) C
           (subst (λ (n : ℕ). Fitting n (entryOf s p)) (sym (rest .0 (record-lines s p q (λ h. o .fresh h .1 .1) e .1))) (entry-fit s p q o e))
           (rest .1 (sound-record s p q e o)),
     ))
 
-pub variables-stay : (k : ℕ) (s : List ℕ) (p : Progress) → T (p .started) → (filing k s p) .progress .variables ≡ p .variables
+pub variables-stay : (k : ℕ) (s : List ℕ) (p : Progress State) → T (p .state .started) → (walk filing k s p) .reached .state .variables ≡ p .state .variables
 variables-stay k s p h = fitting-walk s k p .0 h
 
-pub entries-fit : (k : ℕ) (s : List ℕ) (p : Progress) → Sound p → Fitting ((filing k s p) .progress .variables) (entries k s p)
+pub entries-fit : (k : ℕ) (s : List ℕ) (p : Progress State) → Sound (p .state)
+    → Fitting ((walk filing k s p) .reached .state .variables) (gathered filing entryOf k s p)
 entries-fit k s p o = fitting-walk s k p .1 o
 
 -- ---- one problem, one memory
-leaves-same : (f g : Filed) → f .progress .variables ≡ g .progress .variables → f .progress .lines ≡ g .progress .lines → f .told ≡ g .told → leaves f ≡ leaves g
+leaves-same : (f g : Walked (Progress State)) → f .reached .state .variables ≡ g .reached .state .variables → f .reached .state .lines ≡ g .reached .state .lines
+    → leaves f .told ≡ leaves g .told → leaves f ≡ leaves g
 leaves-same f g a b c = rw (a, b, c)
 
 pub same-problem : (s t : List ℕ) (m l : Memory) → T (sized 128 m) → T (sized 128 l) → fileProblem s m .told ≡ filed → fileProblem t l .told ≡ filed
     → fileProblem s m .memory .variables ≡ fileProblem t l .memory .variables
     → ((f : List ℕ) → agrees (fileProblem s m .memory .variables) f [] ≡ false
-    → total (agrees (fileProblem s m .memory .variables) f) (entries (length s) s begun) ≡ total (agrees (fileProblem s m .memory .variables) f) (entries (length t) t begun))
+    → total (agrees (fileProblem s m .memory .variables) f) (entries s) ≡ total (agrees (fileProblem s m .memory .variables) f) (entries t))
     → fileProblem s m ≡ fileProblem t l
 same-problem s t m l hm hl es et e h =
-    let C : List Line = entries (length s) s begun in
-    let D : List Line = entries (length t) t begun in
-    let F : Filed = filing (length s) s begun in
-    let G : Filed = filing (length t) t begun in
-    let n : ℕ = F .progress .variables in
+    let C : List Line = entries s in
+    let D : List Line = entries t in
+    let F : Walked (Progress State) = readAll filing s empty in
+    let G : Walked (Progress State) = readAll filing t empty in
+    let n : ℕ = F .reached .state .variables in
     let a : fileProblem s m ≡ leaves F = filed-is s m hm in
     let b : fileProblem t l ≡ leaves G = filed-is t l hl in
-    let v : n ≡ G .progress .variables = sym (ap (λ (x : Left). x .memory .variables) a) ∙ e ∙ ap (λ (x : Left). x .memory .variables) b in
+    let v : n ≡ G .reached .state .variables = sym (ap (λ (x : Left). x .memory .variables) a) ∙ e ∙ ap (λ (x : Left). x .memory .variables) b in
     let k : (f : List ℕ) → agrees n f [] ≡ false → total (agrees n f) C ≡ total (agrees n f) D =
     subst (λ (n : ℕ). (f : List ℕ) → agrees n f [] ≡ false → total (agrees n f) C ≡ total (agrees n f) D) (ap (λ (x : Left). x .memory .variables) a) h in
-    let c : Fitting n C = entries-fit (length s) s begun sound-begun in
-    let d : Fitting n D = subst (λ (n : ℕ). Fitting n D) (sym v) (entries-fit (length t) t begun sound-begun) in
-    let lines : F .progress .lines ≡ G .progress .lines = filing-lines (length s) s begun (λ z. refl) ∙ same-sum n C D c d k ∙ sym (filing-lines (length t) t begun (λ z. refl)) in
-    let told : F .told ≡ G .told = sym (ap (λ (x : Left). x .told) a) ∙ es ∙ sym et ∙ ap (λ (x : Left). x .told) b in
+    let c : Fitting n C = entries-fit (length s) s (begun empty) sound-empty in
+    let d : Fitting n D = subst (λ (n : ℕ). Fitting n D) (sym v) (entries-fit (length t) t (begun empty) sound-empty) in
+    let lines : F .reached .state .lines ≡ G .reached .state .lines =
+    filing-lines (length s) s (begun empty) (λ z. refl) ∙ same-sum n C D c d k ∙ sym (filing-lines (length t) t (begun empty) (λ z. refl)) in
+    let told : leaves F .told ≡ leaves G .told = sym (ap (λ (x : Left). x .told) a) ∙ es ∙ sym et ∙ ap (λ (x : Left). x .told) b in
     a ∙ leaves-same F G v lines told ∙ sym b
 
 -- ---- in any order of entry
@@ -437,6 +391,6 @@ total-permuted test (swap (line f u) (line g w) C) =
 total-permuted test (trans C D E h k) = total-permuted test h ∙ total-permuted test k
 
 -- permuted entries satisfy what same-problem asks
-pub permuted : (s t : List ℕ) (n : ℕ) → Permuted (entries (length s) s begun) (entries (length t) t begun)
-    → (f : List ℕ) → agrees n f [] ≡ false → total (agrees n f) (entries (length s) s begun) ≡ total (agrees n f) (entries (length t) t begun)
+pub permuted : (s t : List ℕ) (n : ℕ) → Permuted (entries s) (entries t)
+    → (f : List ℕ) → agrees n f [] ≡ false → total (agrees n f) (entries s) ≡ total (agrees n f) (entries t)
 permuted s t n h f e = total-permuted (agrees n f) h

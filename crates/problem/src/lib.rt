@@ -1,13 +1,168 @@
 // Filing a problem.
-ghost use mathlib.Core.Path.{_≡_};
-ghost use Rattle.problem.specs.Problem.{weightFits};
+mod entry;
 
-// Whether a weight may be filed: from 1 to 1,000,000,000.
-pub fn weight_fits(weight: i64) -> bool
-    ensures { λ r. ⌜ r ≡ weightFits weight ⌝ }
+use configuration::Head;
+use configuration::blank::blank;
+use entry::on_clause;
+use entry::on_term;
+use entry::on_variables;
+use entry::on_weight;
+use entry::refused;
+use polynomial::Polynomial;
+use polynomial::held;
+use refusal::Reason;
+use walk::Turn;
+ghost use mathlib.Core.Path.{_≡_};
+ghost use mathlib.Core.Bool.{cond, not, _&&_};
+ghost use mathlib.Core.List.{[]};
+ghost use Prim.Native.Nat.{_<_};
+ghost use lib.ListN.{length};
+ghost use Rattle.polynomial.specs.Polynomial.{termsOf};
+ghost use Rattle.configuration.specs.Configuration.{some};
+ghost use Rattle.configuration.specs.Memory.{memoryOf, imageOf};
+ghost use Rattle.walk.specs.Walk.{nothing, refusedFor, stopOf, after, readAll};
+ghost use Rattle.problem.specs.Problem.{empty, onRecord, filing, toldOf, verdict, leftOf, leaves, lent, fileProblem};
+ghost use Rattle.problem.specs.Held.{progressOf, Ready};
+
+// What a filing answers. A refusal names a record, 0 where the lent areas are refused, and its reason.
+pub enum Answer {
+    Filed,
+    Refused(u64, Reason),
+}
+
+// What a filing leaves: the head, and the answer.
+pub struct Report {
+    pub head: Head,
+    pub answer: Answer,
+}
+
+// How far a filing has come: where the next record begins, how many are accepted, whether V was among them, the head, the
+// work polynomial.
+pub struct Progress {
+    pub at: usize,
+    pub records: u64,
+    pub started: bool,
+    pub head: Head,
+    pub work: Polynomial,
+}
+
+// The progress that one record leaves, and the answer for it. A refused record leaves all as it was.
+pub struct Step {
+    pub progress: Progress,
+    pub turn: Turn,
+}
+
+// One record: its kind, then its place and its body.
+fn on_record(
+    bytes: &[u8],
+    p: Progress,
+    terms: &mut [u32],
+    weights: &mut [i64],
+    counts: &mut [u32],
+) -> Step
+    requires { ⌜ (p .at < length (now bytes)) × Ready p (now terms) (now weights) (now counts) ⌝ }
+    ensures step { λ r. ⌜ record { reached = progressOf (r .progress) (now (terms .exit)) (now (weights .exit)) (now (counts .exit)); stop = stopOf (r .turn) } ≡ after (progressOf p (now (terms .entry)) (now (weights .entry)) (now (counts .entry))) (onRecord (now (bytes .entry)) (progressOf p (now (terms .entry)) (now (weights .entry)) (now (counts .entry)))) ⌝ }
+    ensures ready { λ r. ⌜ Ready (r .progress) (now (terms .exit)) (now (weights .exit)) (now (counts .exit)) ⌝ }
 {
-    if weight < 1 {
-        return false;
+    let at = p.at;
+    let kind = bytes[at];
+    if kind == b'V' {
+        return on_variables(bytes, p);
     }
-    weight <= 1000000000
+    if kind == b'M' {
+        return on_term(bytes, p);
+    }
+    if kind == b'W' {
+        return on_weight(bytes, p, terms, weights, counts);
+    }
+    if kind == b'C' {
+        return on_clause(bytes, p, terms, weights, counts);
+    }
+    refused(p, Reason::Misplaced)
+}
+
+// The end of the bytes: V must have come, and the work polynomial be empty.
+fn finish(p: Progress) -> Answer
+    requires { ⌜ p .records < 18446744073709551615 ⌝ }
+    ensures { λ r. ⌜ toldOf r ≡ verdict (p .records) (cond (p .started && not (some (termsOf (p .work)))) nothing (refusedFor 15)) ⌝ }
+{
+    let work = p.work;
+    if !p.started {
+        return Answer::Refused(p.records + 1, Reason::Unfinished);
+    }
+    if held(work) != 0 {
+        return Answer::Refused(p.records + 1, Reason::Unfinished);
+    }
+    Answer::Filed
+}
+
+// Reads the records one after the other into cleared areas, up to the first that is refused.
+fn read_records(
+    bytes: &[u8],
+    head: Head,
+    terms: &mut [u32],
+    weights: &mut [i64],
+    counts: &mut [u32],
+) -> Report
+    requires { ⌜ memoryOf head (now terms) (now weights) (now counts) ≡ imageOf 128 0 [] ⌝ }
+    ensures { λ r. ⌜ leftOf (memoryOf (r .head) (now (terms .exit)) (now (weights .exit)) (now (counts .exit))) (r .answer) ≡ leaves (readAll filing (now (bytes .entry)) empty) ⌝ }
+{
+    let mut p = Progress {
+        at: 0,
+        records: 0,
+        started: false,
+        head,
+        work: Polynomial::ZERO,
+    };
+    while p.at < bytes.len() {
+        let step = on_record(bytes, p, terms, weights, counts);
+        let progress = step.progress;
+        p = progress;
+        let turn = step.turn;
+        if let Turn::Refused(reason) = turn {
+            let head = p.head;
+            return Report {
+                head,
+                answer: Answer::Refused(p.records + 1, reason),
+            };
+        }
+    }
+    let head = p.head;
+    let answer = finish(p);
+    Report { head, answer }
+}
+
+// A filing that is refused because of the lent areas: nothing is written.
+fn turned_away() -> Report
+    ensures { λ r. ⌜ r ≡ record { head = record { variables = 0; lines = 0 }; answer = Answer.Refused 0 Reason.WrongLength } ⌝ }
+{
+    Report {
+        head: Head {
+            variables: 0,
+            lines: 0,
+        },
+        answer: Answer::Refused(0, Reason::WrongLength),
+    }
+}
+
+// Files the problem that the bytes are, in lent areas of any lengths and contents.
+pub fn file_problem(
+    bytes: &[u8],
+    terms: &mut [u32],
+    weights: &mut [i64],
+    counts: &mut [u32],
+) -> Report
+    ensures { λ r. ⌜ leftOf (memoryOf (r .head) (now (terms .exit)) (now (weights .exit)) (now (counts .exit))) (r .answer) ≡ fileProblem (now (bytes .entry)) (lent (now (terms .entry)) (now (weights .entry)) (now (counts .entry))) ⌝ }
+{
+    if terms.len() != 8192 {
+        return turned_away();
+    }
+    if weights.len() != 128 {
+        return turned_away();
+    }
+    if counts.len() != 128 {
+        return turned_away();
+    }
+    let head = blank(terms, weights, counts);
+    read_records(bytes, head, terms, weights, counts)
 }

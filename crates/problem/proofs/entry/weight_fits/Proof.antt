@@ -1,14 +1,13 @@
 -- `weight_fits` meets its contract: not below 1 is at least 1.
 use mathlib.Core.Path.{_≡_, refl}
-use mathlib.Core.Bool.{true, false, _&&_}
-use native.Mathlib.Omega.{arith}
+use mathlib.Core.Bool.{true, false}
 use lib.IntN.{ℤ, pos, negsuc}
 use lib.Signed.{ltZ, leZ}
 use mir.Facts.{toZ-ofZ}
 use borrow.Author.Tests.{ltb-true, ltb-false, lt-leb, le-leb}
 use Rattle.problem.specs.Problem.{weightFits}
-use Rattle.problem.proofs.weight_fits.Statement.{statement}
-use Rattle.problem.proofs.weight_fits.Tie as tie
+use Rattle.problem.proofs.entry.weight_fits.Statement.{statement}
+use Rattle.problem.proofs.entry.weight_fits.Tie as tie
 
 too-low : (w : ℤ) → ltZ w (pos 1) ≡ true → false ≡ weightFits w
 too-low (pos n) e = rw (lt-leb 1 n (ltb-true n 1 e))

@@ -1,0 +1,5 @@
+pub mod Bodies
+pub mod Folds
+pub mod Next
+pub mod Records
+pub mod Walks

@@ -1,0 +1,179 @@
+-- `fold` meets its contract: the verdict of the replacement says what is left.
+use mathlib.Core.Path.{_≡_, sym, ap, subst, _∙_}
+use mathlib.Core.List.{List, [], _∷_}
+use native.Mathlib.Omega.{arith}
+use mir.Facts.{toZ-ofZ}
+use denote.Ref.{now}
+use borrow.Author.Needs.{needs}
+use Rattle.polynomial.specs.Polynomial.{termsOf}
+use Rattle.configuration.specs.Configuration.{Line, line, add}
+use Rattle.configuration.specs.Memory.{Memory, memoryOf, linesOf}
+use Rattle.configuration.specs.Replacement.{within, replacementOf, replaced}
+use Rattle.configuration.specs.declared.Verdict.{Verdict}
+use Rattle.walk.specs.Walk.{Walked, stopOf}
+use Rattle.problem.specs.Problem.{State}
+use Rattle.problem.specs.Held.{progressOf, Ready}
+use Rattle.problem.specs.declared.Step.{Step}
+use Rattle.problem.proofs.Folds.{small-weight, Answered, judged, kept-step, kept-ready, done-step, done-ready}
+use Rattle.problem.proofs.entry.fold.Statement.{statement}
+use Rattle.walk.specs.Walk as W
+use Rattle.problem.proofs.entry.fold.Tie as tie
+
+abbrev start : tie.After-add → tie.Start
+start c = c .before .before .before .before .before .before
+
+abbrev memory : tie.Start → Memory
+memory s = memoryOf (s .args .p .head) (now (s .args .terms)) (now (s .args .weights)) (now (s .args .counts))
+
+abbrev new : tie.Start → List Line
+new s = add (termsOf (s .args .f)) (s .args .weight) (linesOf (memory s))
+
+abbrev last : tie.After-add → Memory
+last c = let r = c .add in memoryOf (r .result .head) (r .last .1 .0) (r .last .1 .1 .0) (r .last .1 .1 .1 .0)
+
+-- what the answer is with the areas that are left, and that they are ready for the next record
+abbrev left-by : tie.After-add → Step → Walked (W.Progress State)
+left-by c x = let r = c .add in record { reached = progressOf (x .progress) (r .last .1 .0) (r .last .1 .1 .0) (r .last .1 .1 .1 .0); stop = stopOf (x .turn) }
+
+abbrev ready-by : tie.After-add → Step → Type 0
+ready-by c x = let r = c .add in Ready (x .progress) (r .last .1 .0) (r .last .1 .1 .0) (r .last .1 .1 .1 .0)
+
+replacing : (c : tie.After-add) → replacementOf (last c) (c .add .result .verdict) ≡ replaced (line (termsOf (start c .args .f)) (start c .args .weight) ∷ []) (memory (start c))
+replacing c = rw (toZ-ofZ (start c .fits .weight)) at (c .add .ensures)
+
+told : (c : tie.After-add) (v : Verdict) → c .add .result .verdict ≡ v → Answered (memory (start c)) (last c) (new (start c)) (within (new (start c))) v
+told c v e =
+    let s = start c in
+    let a = s .args in
+    let r = c .add in
+    subst (Answered (memory s) (last c) (new s) (within (new s))) e
+    (judged (a .p) (now (a .terms)) (now (a .weights)) (now (a .counts)) (s .pre .0) (termsOf (a .f)) (a .weight) (r .result .head) (r .last .1 .0) (r .last .1 .1 .0)
+    (r .last .1 .1 .1 .0)
+    (r .result .verdict) (replacing c) (a .size) (a .work))
+
+add-requires : tie.Need-add-requires
+add-requires c κs =
+    let s = c .before .before .before .before .before in
+    (s .pre .0 .well, s .pre .1, rw (toZ-ofZ (s .fits .weight)) (small-weight (s .args .weight) (s .pre .3)))
+
+enum-told : tie.Need-enum-told
+enum-told c = search needs
+
+accepted-requires : tie.Need-accepted-requires
+accepted-requires c κs =
+    let s = c .before .before .before .before .before .before .before .before .before .before .before .before .before in
+    let k = s .pre .0 .counted in
+    let l = s .pre .4 in
+    let m = s .pre .5 in
+    (m, omega arith)
+
+enum-told-2 : tie.Need-enum-told-2
+enum-told-2 c = search needs
+
+refused-requires : tie.Need-refused-requires
+refused-requires c κs = search needs
+
+enum-told-3 : tie.Need-enum-told-3
+enum-told-3 c = search needs
+
+refused-requires-2 : tie.Need-refused-requires-2
+refused-requires-2 c κs = search needs
+
+same-length : tie.Need-same-length
+same-length c = search needs
+
+same-length-2 : tie.Need-same-length-2
+same-length-2 c = search needs
+
+same-length-3 : tie.Need-same-length-3
+same-length-3 c = search needs
+
+returns : tie.Need-returns
+returns c =
+    let k = c .before .before .before .before .before .before .before .before in
+    let s = start k in
+    let a = s .args in
+    let r = k .add in
+    let d = told k _ (c .before .enum-told .given .1) in (
+      ap (left-by k) (c .accepted .ensures)
+          ∙ (done-step (a .p) (now (a .terms)) (now (a .weights)) (now (a .counts)) (s .pre .0) (termsOf (a .f)) (a .weight) (r .result .head) (r .last .1 .0)
+          (r .last .1 .1 .0) (r .last .1 .1 .1 .0)
+          (r .result .verdict) (replacing k) (a .size) (a .work) (s .pre .1) (s .pre .2) (s .pre .4) d),
+      subst (ready-by k) (sym (c .accepted .ensures)) (done-ready (a .p) (now (a .terms)) (now (a .weights)) (now (a .counts)) (s .pre .0) (termsOf (a .f)) (a .weight)
+          (r .result .head) (r .last .1 .0) (r .last .1 .1 .0) (r .last .1 .1 .1 .0)
+          (r .result .verdict) (replacing k) (a .size) (a .work) (s .pre .1) (s .pre .2) (s .pre .4) d),
+    )
+
+same-length-4 : tie.Need-same-length-4
+same-length-4 c = search needs
+
+same-length-5 : tie.Need-same-length-5
+same-length-5 c = search needs
+
+same-length-6 : tie.Need-same-length-6
+same-length-6 c = search needs
+
+returns-2 : tie.Need-returns-2
+returns-2 c =
+    let k = c .before .before .before .before .before .before .before .before in
+    let s = start k in
+    let a = s .args in
+    let r = k .add in
+    let d = told k _ (c .before .enum-told2 .given .1) in (
+      ap (left-by k) (c .refused .ensures)
+          ∙ (kept-step (a .p) (now (a .terms)) (now (a .weights)) (now (a .counts)) (s .pre .0) (termsOf (a .f)) (a .weight) (r .result .head) (r .last .1 .0)
+          (r .last .1 .1 .0) (r .last .1 .1 .1 .0)
+          (r .result .verdict) (replacing k) (a .size) (a .work) 10 d),
+      subst (ready-by k) (sym (c .refused .ensures)) (kept-ready (a .p) (now (a .terms)) (now (a .weights)) (now (a .counts)) (s .pre .0) (termsOf (a .f)) (a .weight)
+          (r .result .head) (r .last .1 .0) (r .last .1 .1 .0) (r .last .1 .1 .1 .0)
+          (r .result .verdict) (replacing k) (a .size) (a .work) 10 d),
+    )
+
+same-length-7 : tie.Need-same-length-7
+same-length-7 c = search needs
+
+same-length-8 : tie.Need-same-length-8
+same-length-8 c = search needs
+
+same-length-9 : tie.Need-same-length-9
+same-length-9 c = search needs
+
+returns-3 : tie.Need-returns-3
+returns-3 c =
+    let k = c .before .before .before .before .before .before .before .before in
+    let s = start k in
+    let a = s .args in
+    let r = k .add in
+    let d = told k _ (c .before .enum-told3 .given .1) in (
+      ap (left-by k) (c .refused2 .ensures)
+          ∙ (kept-step (a .p) (now (a .terms)) (now (a .weights)) (now (a .counts)) (s .pre .0) (termsOf (a .f)) (a .weight) (r .result .head) (r .last .1 .0)
+          (r .last .1 .1 .0) (r .last .1 .1 .1 .0)
+          (r .result .verdict) (replacing k) (a .size) (a .work) 11 d),
+      subst (ready-by k) (sym (c .refused2 .ensures)) (kept-ready (a .p) (now (a .terms)) (now (a .weights)) (now (a .counts)) (s .pre .0) (termsOf (a .f)) (a .weight)
+          (r .result .head) (r .last .1 .0) (r .last .1 .1 .0) (r .last .1 .1 .1 .0)
+          (r .result .verdict) (replacing k) (a .size) (a .work) 11 d),
+    )
+
+pub fold-spec : {M : Type 1} → statement M
+fold-spec =
+    tie.close
+    (tie.spec
+    add-requires
+    enum-told
+    accepted-requires
+    enum-told-2
+    refused-requires
+    enum-told-3
+    refused-requires-2
+    same-length
+    same-length-2
+    same-length-3
+    returns
+    same-length-4
+    same-length-5
+    same-length-6
+    returns-2
+    same-length-7
+    same-length-8
+    same-length-9
+    returns-3)

@@ -1,0 +1,163 @@
+-- `read_records` meets its contract. The invariant: what is left to do from the progress on is the whole filing.
+use mathlib.Core.Path.{_≡_, refl, sym, ap, _∙_}
+use mathlib.Core.List.{[]}
+use Prim.Native.Nat.{_-_, _≤_, _<_}
+use native.Mathlib.Omega.{arith}
+use lib.ListN.{length}
+use denote.Ref.{now}
+use borrow.Author.Needs.{needs}
+use Rattle.polynomial.specs.Polynomial.{polynomialOf}
+use Rattle.walk.specs.Walk.{Walked, stopOf, after, over}
+use Rattle.walk.specs.declared.Turn.{Turn}
+use Rattle.problem.specs.Problem.{State, onRecord, filing, leaves}
+use Rattle.problem.specs.Held.{progressOf, Ready}
+use Rattle.problem.proofs.Walks.{Leads, first-ready, first-leads, inside, next-leads, unmoved, ends-refused, ends, left-there, left-refused}
+use Rattle.problem.proofs.read_records.Statement.{statement}
+use Rattle.walk.specs.Walk as W
+use Rattle.problem.proofs.read_records.Tie as tie
+
+abbrev Inv-loop : tie.InvT-loop
+Inv-loop bytes terms₀ weights₀ counts₀ p₀ terms weights counts p =
+    (length terms ≡ length terms₀) × (length weights ≡ length weights₀) × (length counts ≡ length counts₀) × (p .at ≤ length bytes) × Ready p terms weights counts
+    × Leads bytes (progressOf p terms weights counts)
+
+abbrev μ-loop : tie.MeasureT-loop
+μ-loop bytes terms₀ weights₀ counts₀ p₀ terms weights counts p = length bytes - p .at
+
+short : (c : tie.After-shared-slice-known Inv-loop μ-loop) → length (now (c .before .args .bytes)) < 18446744073709551616
+short c = omega arith
+
+-- ---- one record
+abbrev start : tie.After-on-record Inv-loop μ-loop → tie.Start Inv-loop μ-loop
+start c = c .before .before .before .before .before .before .before .before .before .before
+
+abbrev was : tie.After-on-record Inv-loop μ-loop → W.Progress State
+was c = let l = c .before .before .before .before .before .before .loop in progressOf (l .p) (l .terms) (l .weights) (l .counts)
+
+abbrev is : tie.After-on-record Inv-loop μ-loop → W.Progress State
+is c = let r = c .on-record in progressOf (r .result .progress) (r .last .1 .1 .0) (r .last .1 .1 .1 .0) (r .last .1 .1 .1 .1 .0)
+
+counted : (c : tie.After-on-record Inv-loop μ-loop) → was c .records ≤ was c .at
+counted c = c .before .before .before .before .before .before .loop .inv .4 .counted
+
+under : (c : tie.After-on-record Inv-loop μ-loop) → was c .at < length (now (start c .args .bytes))
+under c = c .before .before .before .before .if1 .taken
+
+told : (c : tie.After-on-record Inv-loop μ-loop) (t : Turn) → c .on-record .result .turn ≡ t
+    → _≡_ {A = Walked (W.Progress State)} (record { reached = is c; stop = stopOf t }) (after (was c) (onRecord (now (start c .args .bytes)) (was c)))
+told c t e = ap (λ (t : Turn). record { reached = is c; stop = stopOf t }) (sym e) ∙ c .on-record .ensures .0
+
+loop-holds : tie.Need-loop-holds Inv-loop μ-loop
+loop-holds c =
+    let s = c .before .before .before in
+    let a = s .args in (
+      refl,
+      refl,
+      refl,
+      omega arith,
+      first-ready (a .head) (polynomialOf []) (now (a .terms)) (now (a .weights)) (now (a .counts)) (s .pre) refl,
+      first-leads (a .head) (polynomialOf []) (now (a .terms)) (now (a .weights)) (now (a .counts)) (s .pre) refl (now (a .bytes)),
+    )
+
+on-record-requires : tie.Need-on-record-requires Inv-loop μ-loop
+on-record-requires c κs = let l = c .before .before .before .before .before .loop in (c .before .before .before .if1 .taken, l .inv .4)
+
+enum-known-turn : tie.Need-enum-known-turn Inv-loop μ-loop
+enum-known-turn c = search needs
+
+add-t24 : tie.Need-add-t24 Inv-loop μ-loop
+add-t24 c =
+    let k = c .before .before .before .before .before .before .before .before .before .before .before in
+    let u : is k .at ≡ was k .at = ap (λ (q : W.Progress State). q .at) (unmoved (now (start k .args .bytes)) (was k) (is k) (counted k) (under k) _ (told k _ (c .before .before .before .turn .given .1))) in
+    let n = k .on-record .ensures .1 .counted in
+    let d = under k in
+    let g = short (k .before .before .before .before .before .before .before .before .before) in
+    record { fits = omega arith }
+
+same-length : tie.Need-same-length Inv-loop μ-loop
+same-length c = search needs
+
+same-length-2 : tie.Need-same-length-2 Inv-loop μ-loop
+same-length-2 c = search needs
+
+same-length-3 : tie.Need-same-length-3 Inv-loop μ-loop
+same-length-3 c = search needs
+
+returns : tie.Need-returns Inv-loop μ-loop
+returns c =
+    let k = c .before .before .before .before .before .before .before .before .before .before .before in
+    let r = k .on-record in
+    left-refused (r .result .progress) (r .last .1 .1 .0) (r .last .1 .1 .1 .0) (r .last .1 .1 .1 .1 .0) (c .before .before .before .turn .given .0 .0) (r .ensures .1)
+    ∙ ap leaves (ends-refused (now (start k .args .bytes)) (was k) (is k) (counted k) (under k) _ (told k _ (c .before .before .before .turn .given .1))
+    (k .before .before .before .before .before .before .loop .inv .5))
+
+enum-told : tie.Need-enum-told Inv-loop μ-loop
+enum-told c = search needs
+
+loop-less : tie.Need-loop-less Inv-loop μ-loop
+loop-less c =
+    let k = c .before .before .before .before .before .before .before .before in
+    let i = inside (now (start k .args .bytes)) (was k) (is k) (counted k) (under k) (told k _ (c .enum-told .given .1)) in
+    let m = i .0 in
+    let n = i .1 in
+    omega arith
+
+loop-again : tie.Need-loop-again Inv-loop μ-loop
+loop-again c =
+    let k = c .before .before .before .before .before .before .before .before in
+    let e = told k _ (c .enum-told .given .1) in (
+      search needs,
+      search needs,
+      search needs,
+      inside (now (start k .args .bytes)) (was k) (is k) (counted k) (under k) e .1,
+      k .on-record .ensures .1,
+      next-leads
+          (now (start k .args .bytes)) (was k) (is k) (counted k) (under k) e (k .before .before .before .before .before .before .loop .inv .5),
+    )
+
+finish-requires : tie.Need-finish-requires Inv-loop μ-loop
+finish-requires c κs =
+    let l = c .before .before .before .loop in
+    let n = l .inv .4 .counted in
+    let m = l .inv .3 in
+    omega arith
+
+same-length-4 : tie.Need-same-length-4 Inv-loop μ-loop
+same-length-4 c = search needs
+
+same-length-5 : tie.Need-same-length-5 Inv-loop μ-loop
+same-length-5 c = search needs
+
+same-length-6 : tie.Need-same-length-6 Inv-loop μ-loop
+same-length-6 c = search needs
+
+returns-2 : tie.Need-returns-2 Inv-loop μ-loop
+returns-2 c =
+    let l = c .before .before .before .before .loop in
+    let s = c .before .before .before .before .before .before .before .before in
+    let q : W.Progress State = progressOf (l .p) (l .terms) (l .weights) (l .counts) in
+    left-there (l .p) (l .terms) (l .weights) (l .counts) (c .finish .result) (over filing q .stop) (l .inv .4) (c .finish .ensures)
+    ∙ ap leaves (ends (now (s .args .bytes)) q (c .before .before .if1 .left) (l .inv .5))
+
+pub read-records-spec : {M : Type 1} → statement M
+read-records-spec =
+    tie.close
+    (tie.spec
+    Inv-loop
+    μ-loop
+    loop-holds
+    on-record-requires
+    enum-known-turn
+    add-t24
+    same-length
+    same-length-2
+    same-length-3
+    returns
+    enum-told
+    loop-less
+    loop-again
+    finish-requires
+    same-length-4
+    same-length-5
+    same-length-6
+    returns-2)

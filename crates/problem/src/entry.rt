@@ -1,0 +1,193 @@
+// What each kind of record does in a filing. These functions are for the walk over the records alone.
+use crate::Progress;
+use crate::Step;
+use configuration::Head;
+use configuration::Verdict;
+use configuration::form::is_term;
+use configuration::replace::add;
+use polynomial::Polynomial;
+use record::Amount;
+use record::Byte;
+use record::Clause;
+use record::read_amount;
+use record::read_byte;
+use record::read_clause;
+use refusal::Reason;
+use walk::Turn;
+use walk::add_term;
+ghost use mathlib.Core.Path.{_≡_};
+ghost use mathlib.Core.Bool.{true};
+ghost use mathlib.Core.List.{List};
+ghost use Prim.Native.Nat.{ℕ, _+_, _≤_, _<_};
+ghost use lib.Dec.{T};
+ghost use lib.IntN.{ℤ};
+ghost use lib.ListN.{length};
+ghost use Rattle.polynomial.specs.Polynomial.{termsOf};
+ghost use Rattle.configuration.specs.Configuration.{add as addTo, isPolynomial};
+ghost use Rattle.configuration.specs.Memory.{linesIn};
+ghost use Rattle.configuration.specs.Replacement.{within};
+ghost use Rattle.walk.specs.Walk.{stopOf, after};
+ghost use Rattle.problem.specs.Problem.{weightFits, folded, onVariables, onTerm, onWeight, onClause};
+ghost use Rattle.problem.specs.Held.{progressOf, Ready};
+
+// Whether a weight may be filed: from 1 to 1,000,000,000.
+fn weight_fits(weight: i64) -> bool
+    ensures { λ r. ⌜ r ≡ weightFits weight ⌝ }
+{
+    if weight < 1 {
+        return false;
+    }
+    weight <= 1000000000
+}
+
+// A refused record.
+pub fn refused(p: Progress, reason: Reason) -> Step
+    ensures { λ r. ⌜ r ≡ record { progress = p; turn = Turn.Refused reason } ⌝ }
+{
+    Step {
+        progress: p,
+        turn: Turn::Refused(reason),
+    }
+}
+
+// An accepted record of so many bytes.
+fn accepted(p: Progress, size: usize, head: Head, work: Polynomial) -> Step
+    requires { ⌜ (p .at + size < 18446744073709551616) × (p .records < 18446744073709551615) ⌝ }
+    ensures { λ r. ⌜ r ≡ record { progress = record { at = p .at + size; records = p .records + 1; started = true; head = head; work = work }; turn = Turn.Accepted } ⌝ }
+{
+    Step {
+        progress: Progress {
+            at: p.at + size,
+            records: p.records + 1,
+            started: true,
+            head,
+            work,
+        },
+        turn: Turn::Accepted,
+    }
+}
+
+// V: the number of variables.
+pub fn on_variables(bytes: &[u8], p: Progress) -> Step
+    requires { ⌜ (p .at < length (now bytes)) × (p .records ≤ p .at) ⌝ }
+    ensures step { λ r. ⌜ ((ts : List ℕ) (ws : List ℤ) (cs : List ℕ) → Ready p ts ws cs → record { reached = progressOf (r .progress) ts ws cs; stop = stopOf (r .turn) } ≡ after (progressOf p ts ws cs) (onVariables (now (bytes .entry)) (progressOf p ts ws cs))) ⌝ }
+    ensures ready { λ r. ⌜ ((ts : List ℕ) (ws : List ℤ) (cs : List ℕ) → Ready p ts ws cs → Ready (r .progress) ts ws cs) ⌝ }
+{
+    if p.started {
+        return refused(p, Reason::Misplaced);
+    }
+    let Byte::Whole(variables) = read_byte(bytes, p.at + 1) else {
+        return refused(p, Reason::CutShort);
+    };
+    if 32 < variables {
+        return refused(p, Reason::TooManyVariables);
+    }
+    let head = Head {
+        variables: variables as u32,
+        lines: 0,
+    };
+    accepted(p, 2, head, Polynomial::ZERO)
+}
+
+// M: a term is added to the work polynomial.
+pub fn on_term(bytes: &[u8], p: Progress) -> Step
+    requires { ⌜ (p .at < length (now bytes)) × (p .records ≤ p .at) ⌝ }
+    ensures step { λ r. ⌜ ((ts : List ℕ) (ws : List ℤ) (cs : List ℕ) → Ready p ts ws cs → record { reached = progressOf (r .progress) ts ws cs; stop = stopOf (r .turn) } ≡ after (progressOf p ts ws cs) (onTerm (now (bytes .entry)) (progressOf p ts ws cs))) ⌝ }
+    ensures ready { λ r. ⌜ ((ts : List ℕ) (ws : List ℤ) (cs : List ℕ) → Ready p ts ws cs → Ready (r .progress) ts ws cs) ⌝ }
+{
+    if !p.started {
+        return refused(p, Reason::Misplaced);
+    }
+    let head = p.head;
+    let added = add_term(head.variables, bytes, p.at + 1, p.work);
+    let turn = added.turn;
+    if let Turn::Refused(reason) = turn {
+        return refused(p, reason);
+    }
+    accepted(p, 5, head, added.polynomial)
+}
+
+// Folds a weighted polynomial in: the record that brings it has so many bytes and leaves a work polynomial.
+fn fold(
+    p: Progress,
+    size: usize,
+    f: Polynomial,
+    weight: i64,
+    work: Polynomial,
+    terms: &mut [u32],
+    weights: &mut [i64],
+    counts: &mut [u32],
+) -> Step
+    requires { ⌜ Ready p (now terms) (now weights) (now counts) × T (isPolynomial (p .head .variables) (termsOf f)) × T (isPolynomial (p .head .variables) (termsOf work)) × T (weightFits weight) × (0 < size) × (p .at + size < 18446744073709551616) ⌝ }
+    ensures step { λ r. ⌜ record { reached = progressOf (r .progress) (now (terms .exit)) (now (weights .exit)) (now (counts .exit)); stop = stopOf (r .turn) } ≡ after (progressOf p (now (terms .entry)) (now (weights .entry)) (now (counts .entry))) (folded (progressOf p (now (terms .entry)) (now (weights .entry)) (now (counts .entry))) size (termsOf work) (within (addTo (termsOf f) weight (linesIn (p .head) (now (terms .entry)) (now (weights .entry)) (now (counts .entry)))))) ⌝ }
+    ensures ready { λ r. ⌜ Ready (r .progress) (now (terms .exit)) (now (weights .exit)) (now (counts .exit)) ⌝ }
+{
+    let done = add(p.head, terms, weights, counts, f, weight);
+    let verdict = done.verdict;
+    match verdict {
+        Verdict::Done => accepted(p, size, done.head, work),
+        Verdict::TooManyLines => refused(p, Reason::TooManyLines),
+        Verdict::WeightTooLarge => refused(p, Reason::WeightTooLarge),
+    }
+}
+
+// W: the work polynomial is added at a weight, and cleared.
+pub fn on_weight(
+    bytes: &[u8],
+    p: Progress,
+    terms: &mut [u32],
+    weights: &mut [i64],
+    counts: &mut [u32],
+) -> Step
+    requires { ⌜ (p .at < length (now bytes)) × Ready p (now terms) (now weights) (now counts) ⌝ }
+    ensures step { λ r. ⌜ record { reached = progressOf (r .progress) (now (terms .exit)) (now (weights .exit)) (now (counts .exit)); stop = stopOf (r .turn) } ≡ after (progressOf p (now (terms .entry)) (now (weights .entry)) (now (counts .entry))) (onWeight (now (bytes .entry)) (progressOf p (now (terms .entry)) (now (weights .entry)) (now (counts .entry)))) ⌝ }
+    ensures ready { λ r. ⌜ Ready (r .progress) (now (terms .exit)) (now (weights .exit)) (now (counts .exit)) ⌝ }
+{
+    if !p.started {
+        return refused(p, Reason::Misplaced);
+    }
+    let Amount::Whole(weight) = read_amount(bytes, p.at + 1) else {
+        return refused(p, Reason::CutShort);
+    };
+    if !weight_fits(weight) {
+        return refused(p, Reason::OutOfRange);
+    }
+    let nothing = Polynomial::ZERO;
+    fold(p, 9, p.work, weight, nothing, terms, weights, counts)
+}
+
+// C: a clause is added at a weight; the work polynomial is untouched.
+pub fn on_clause(
+    bytes: &[u8],
+    p: Progress,
+    terms: &mut [u32],
+    weights: &mut [i64],
+    counts: &mut [u32],
+) -> Step
+    requires { ⌜ (p .at < length (now bytes)) × Ready p (now terms) (now weights) (now counts) ⌝ }
+    ensures step { λ r. ⌜ record { reached = progressOf (r .progress) (now (terms .exit)) (now (weights .exit)) (now (counts .exit)); stop = stopOf (r .turn) } ≡ after (progressOf p (now (terms .entry)) (now (weights .entry)) (now (counts .entry))) (onClause (now (bytes .entry)) (progressOf p (now (terms .entry)) (now (weights .entry)) (now (counts .entry)))) ⌝ }
+    ensures ready { λ r. ⌜ Ready (r .progress) (now (terms .exit)) (now (weights .exit)) (now (counts .exit)) ⌝ }
+{
+    if !p.started {
+        return refused(p, Reason::Misplaced);
+    }
+    let Clause::Whole(plain, negated, weight) = read_clause(bytes, p.at + 1) else {
+        return refused(p, Reason::CutShort);
+    };
+    let head = p.head;
+    if !is_term(head.variables, plain) {
+        return refused(p, Reason::UnknownVariable);
+    }
+    if !is_term(head.variables, negated) {
+        return refused(p, Reason::UnknownVariable);
+    }
+    if !weight_fits(weight) {
+        return refused(p, Reason::OutOfRange);
+    }
+    let clause = Polynomial::clause(plain, negated);
+    if 64 < clause.length {
+        return refused(p, Reason::TooManyTerms);
+    }
+    let f = clause.polynomial;
+    fold(p, 17, f, weight, p.work, terms, weights, counts)
+}
