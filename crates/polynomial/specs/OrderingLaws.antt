@@ -74,7 +74,7 @@ pub order-irrefl : (f : List ℕ) → orderOf f f ≡ Earlier → ⊥
 order-irrefl f h = not-same h (order-self f)
 
 -- what it takes to be earlier, of two that begin with a term
-lead : (t u : ℕ) (f g : List ℕ) → orderOf (t ∷ f) (u ∷ g) ≡ Earlier → T (before t u) ⊎ ((t ≡ u) × (orderOf f g ≡ Earlier))
+pub lead : (t u : ℕ) (f g : List ℕ) → orderOf (t ∷ f) (u ∷ g) ≡ Earlier → T (before t u) ⊎ ((t ≡ u) × (orderOf f g ≡ Earlier))
 lead t u f g h = go (before-total t u)
   where
     go : T (before t u) ⊎ ((t ≡ u) ⊎ T (before u t)) → T (before t u) ⊎ ((t ≡ u) × (orderOf f g ≡ Earlier))

@@ -10,7 +10,7 @@ use lib.Dec.{T, leb, leb→le, nleb→lt, le→leb}
 use lib.ListN.{length, take}
 use lib.Seq.{length-take-le}
 use Rattle.run.specs.Boolean.{is-true, is-false, of-true}
-use Rattle.walk.specs.Walk.{Outcome, accepted, turnedDown, unless, mapped, Progress, begun, Reader, nothing, refusedFor, Walked, next, over, walk, readAll, onward, gathered}
+use Rattle.walk.specs.Walk.{Outcome, accepted, turnedDown, unless, mapped, Progress, begun, Reader, nothing, refusedFor, Walked, after, next, over, walk, readAll, onward, gathered}
 
 -- ---- one outcome
 -- what holds of every refusal, and of what follows a test that holds, holds behind the test
@@ -192,3 +192,23 @@ module _ {S : Type 0} (R : Reader S) (L : Local R) where
 
   pub accepted-bytes : (s : List ℕ) (x : S) → readAll R (acceptedBytes R s x) x ≡ over R ((readAll R s x) .reached)
   accepted-bytes s x = records-prefix (length s) s x
+
+-- ---- what code's answer for one record says of the outcome
+pub after-refused : {A : Type 0} (p q : A) (n : ℕ) (x : Outcome A) → _≡_ {A = Walked A} (record { reached = q; stop = refusedFor n }) (after p x)
+    → (x ≡ turnedDown n) × (q ≡ p)
+after-refused {A} p q n (accepted y) e =
+    let s : refusedFor n ≡ nothing = ap (λ (w : Walked A). w .stop) e in
+    let z : _≡_ {A = ℕ} 0 1 = cc in
+    let i : ⊥ = omega arith in
+    absurd i
+after-refused {A} p q n (turnedDown m) e =
+    let s : refusedFor n ≡ refusedFor m = ap (λ (w : Walked A). w .stop) e in
+    (cc, ap (λ (w : Walked A). w .reached) e)
+
+pub after-accepted : {A : Type 0} (p q : A) (x : Outcome A) → _≡_ {A = Walked A} (record { reached = q; stop = nothing }) (after p x) → x ≡ accepted q
+after-accepted {A} p q (accepted y) e = ap (λ (w : A). accepted w) (sym (ap (λ (w : Walked A). w .reached) e))
+after-accepted {A} p q (turnedDown m) e =
+    let s : nothing ≡ refusedFor m = ap (λ (w : Walked A). w .stop) e in
+    let z : _≡_ {A = ℕ} 0 1 = cc in
+    let i : ⊥ = omega arith in
+    absurd i

@@ -1,0 +1,5 @@
+pub mod Entries
+pub mod Steps
+pub mod Letters
+pub mod Degrees
+pub mod Loops

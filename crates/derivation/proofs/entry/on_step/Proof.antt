@@ -1,0 +1,212 @@
+-- `on_step` meets its contract: the place, the body and the calculus' own step answer for the record.
+use mathlib.Core.Path.{_≡_, sym, ap, _∙_}
+use mathlib.Core.Bool.{true, not, _&&_}
+use mathlib.Core.List.{List}
+use Prim.Native.Nat.{ℕ, _+_, _≤_}
+use native.Mathlib.Omega.{arith}
+use lib.Dec.{leb→le}
+use lib.IntN.{ℤ}
+use lib.ListN.{length}
+use mir.Syntax.{w64}
+use mir.Facts.{toZ-ofZ}
+use denote.Ref.{now}
+use borrow.Author.Tests.{not-true, not-false}
+use borrow.Author.Needs.{needs}
+use Rattle.derivation.proofs.Entries.{turned-down}
+use Rattle.run.specs.Boolean.{of-true}
+use Rattle.refusal.specs.declared.Reason.the-variants.{Misplaced, CutShort}
+use Rattle.polynomial.specs.Polynomial.{termsOf}
+use Rattle.configuration.specs.Memory.{Memory, memoryOf, linesOf}
+use Rattle.record.specs.Record.{amountIn}
+use Rattle.record.specs.declared.Amount.the-variants.{Whole}
+use Rattle.record.proofs.Bodies.{amount-whole}
+use Rattle.calculus.specs.Calculus.{leftOf, leaves}
+use Rattle.calculus.specs.declared.Answer.{Answer}
+use Rattle.derivation.specs.Derivation.{onStep}
+use Rattle.derivation.specs.Held.{progressOf}
+use Rattle.derivation.proofs.Steps.{step-misplaced, step-unset, step-cut, step-refused, step-accepted}
+use Rattle.derivation.proofs.entry.on_step.Statement.{statement}
+use Rattle.calculus.specs.Calculus as C
+use Rattle.derivation.proofs.entry.on_step.Tie as tie
+
+-- where the amount is read
+abbrev start : tie.After-read-amount → tie.Start
+start k = k .before .before .before .before .before .before .before .before .before
+
+abbrev bytes : tie.Start → List ℕ
+bytes s = now (s .args .bytes)
+
+going-on : (k : tie.After-read-amount) → (let p = start k .args .p in (p .started && not (p .closed)) ≡ true)
+going-on k = let g = k .before .before .before .before .before .is-going in sym (g .ensures) ∙ not-false (g .result) (k .before .before .before .before .if1 .left)
+
+is-set : (k : tie.After-read-amount) → start k .args .p .chosen ≡ true
+is-set k = not-false (start k .args .p .chosen) (k .before .before .if2 .left)
+
+is-going-requires : tie.Need-is-going-requires
+is-going-requires c κs = search needs
+
+refused-requires : tie.Need-refused-requires
+refused-requires c κs = search needs
+
+returns : tie.Need-returns
+returns c =
+    let s = c .before .before .before .before .before .before in
+    let a = s .args in
+    let p = a .p in
+    let k = sym (c .before .before .is-going .ensures) ∙ not-true (c .before .before .is-going .result) (c .before .if1 .taken) in
+    let x = onStep (a .rule) (bytes s) (progressOf p (now (a .terms)) (now (a .weights)) (now (a .counts))) in
+    turned-down p (now (a .terms)) (now (a .weights)) (now (a .counts)) Misplaced (c .refused .result) (c .refused .ensures) (p .head .variables) (s .pre .1)
+    x
+    (step-misplaced (bytes s) p (now (a .terms)) (now (a .weights)) (now (a .counts)) (a .rule) k)
+
+refused-requires-2 : tie.Need-refused-requires-2
+refused-requires-2 c κs = search needs
+
+returns-2 : tie.Need-returns-2
+returns-2 c =
+    let s = c .before .before .before .before .before .before .before .before in
+    let a = s .args in
+    let p = a .p in
+    let g = c .before .before .before .before .is-going in
+    let k = sym (g .ensures) ∙ not-false (g .result) (c .before .before .before .if1 .left) in
+    let x = onStep (a .rule) (bytes s) (progressOf p (now (a .terms)) (now (a .weights)) (now (a .counts))) in
+    turned-down p (now (a .terms)) (now (a .weights)) (now (a .counts)) Misplaced (c .refused2 .result) (c .refused2 .ensures) (p .head .variables) (s .pre .1)
+    x
+    (step-unset (bytes s) p (now (a .terms)) (now (a .weights)) (now (a .counts)) (a .rule) k (not-true (p .chosen) (c .before .if2 .taken)))
+
+add-body : tie.Need-add-body
+add-body c = search needs
+
+read-amount-requires : tie.Need-read-amount-requires
+read-amount-requires c κs = search needs
+
+enum-known-amount : tie.Need-enum-known-amount
+enum-known-amount c = search needs
+
+enum-told : tie.Need-enum-told
+enum-told c = search needs
+
+refused-requires-3 : tie.Need-refused-requires-3
+refused-requires-3 c κs = search needs
+
+returns-3 : tie.Need-returns-3
+returns-3 c =
+    let k = c .before .before .before in
+    let s = start k in
+    let a = s .args in
+    let p = a .p in
+    let d = sym (k .read-amount .ensures) ∙ c .before .enum-told .given .1 in
+    let x = onStep (a .rule) (bytes s) (progressOf p (now (a .terms)) (now (a .weights)) (now (a .counts))) in
+    turned-down p (now (a .terms)) (now (a .weights)) (now (a .counts)) CutShort (c .refused3 .result) (c .refused3 .ensures) (p .head .variables) (s .pre .1)
+    x
+    (step-cut (bytes s) p (now (a .terms)) (now (a .weights)) (now (a .counts)) (a .rule) (going-on k) (is-set k) d)
+
+step-requires : tie.Need-step-requires
+step-requires c κs =
+    let s = start (c .before .before .before .before .before .before .before .before .before) in
+    (s .pre .1 .well, s .pre .1 .operand, s .pre .1 .polynomial)
+
+-- where the step was taken
+abbrev amount : tie.After-step → ℤ
+amount t = t .before .before .before .before .before .before .before .before .amount .given .0 .0
+
+read : (t : tie.After-step)
+    → (let s = start (t .before .before .before .before .before .before .before .before .before .before) in amountIn (bytes s) (s .args .p .at + 1) ≡ Whole (amount t))
+read t =
+    sym (t .before .before .before .before .before .before .before .before .before .before .read-amount .ensures)
+    ∙ t .before .before .before .before .before .before .before .before .amount .given .1
+
+abbrev last : tie.After-step → Memory
+last t = memoryOf (t .step .result .head) (t .step .last .1 .0) (t .step .last .1 .1 .0) (t .step .last .1 .1 .1 .0)
+
+told : (t : tie.After-step)
+    → (let a = start (t .before .before .before .before .before .before .before .before .before .before) .args in
+    let m = memoryOf (a .p .head) (now (a .terms)) (now (a .weights)) (now (a .counts)) in
+    leftOf (last t) (t .step .result .answer) ≡ leaves m (C.step (a .rule) (a .p .mode) (termsOf (a .p .first)) (termsOf (a .p .work)) (amount t) (linesOf m)))
+told t = rw (toZ-ofZ {w = w64} {z = amount t} (record { sfits = search needs })) at (t .step .ensures)
+
+enum-known-answer : tie.Need-enum-known-answer
+enum-known-answer c = search needs
+
+refused-requires-4 : tie.Need-refused-requires-4
+refused-requires-4 c κs = search needs
+
+same-length : tie.Need-same-length
+same-length c = search needs
+
+same-length-2 : tie.Need-same-length-2
+same-length-2 c = search needs
+
+same-length-3 : tie.Need-same-length-3
+same-length-3 c = search needs
+
+returns-4 : tie.Need-returns-4
+returns-4 c =
+    let t = c .before .before .before .before .before .before .before .before .before .before in
+    let k = t .before .before .before .before .before .before .before .before .before .before in
+    let s = start k in
+    let a = s .args in
+    let d = c .before .before .answer in
+    step-refused (bytes s) (a .p) (now (a .terms)) (now (a .weights)) (now (a .counts)) (a .rule) (going-on k) (is-set k) (amount t) (read t) (a .p .head .variables) (s .pre .1)
+    (t .step .result .head) (t .step .last .1 .0) (t .step .last .1 .1 .0) (t .step .last .1 .1 .1 .0) (d .given .0 .0) (d .given .0 .1 .0)
+    (ap (λ (x : Answer). leftOf (last t) x) (sym (d .given .1)) ∙ told t) (c .refused4 .result) (c .refused4 .ensures)
+
+enum-told-2 : tie.Need-enum-told-2
+enum-told-2 c = search needs
+
+accepted-requires : tie.Need-accepted-requires
+accepted-requires c κs =
+    let t = c .before .before .before .before .before .before .before .before in
+    let s = start (t .before .before .before .before .before .before .before .before .before .before) in
+    let p = s .args .p in
+    let h : p .at + 1 + 8 ≤ length (bytes s) = leb→le (p .at + 1 + 8) (length (bytes s)) (of-true (amount-whole (bytes s) (p .at + 1) (amount t) (read t) .0)) in
+    let b = s .good .0 in
+    (omega (arith, h, b), omega (arith, h, b, s .pre .1 .counted))
+
+same-length-4 : tie.Need-same-length-4
+same-length-4 c = search needs
+
+same-length-5 : tie.Need-same-length-5
+same-length-5 c = search needs
+
+same-length-6 : tie.Need-same-length-6
+same-length-6 c = search needs
+
+returns-5 : tie.Need-returns-5
+returns-5 c =
+    let t = c .before .before .before .before .before .before .before .before .before in
+    let k = t .before .before .before .before .before .before .before .before .before .before in
+    let s = start k in
+    let a = s .args in
+    step-accepted (bytes s) (a .p) (now (a .terms)) (now (a .weights)) (now (a .counts)) (a .rule) (going-on k) (is-set k) (amount t) (read t) (a .p .head .variables) (s .pre .1)
+    (t .step .result .head) (t .step .last .1 .0) (t .step .last .1 .1 .0) (t .step .last .1 .1 .1 .0)
+    (ap (λ (x : Answer). leftOf (last t) x) (sym (c .before .enum-told2 .given .1)) ∙ told t) (c .accepted .result) (c .accepted .ensures)
+
+pub on-step-spec : {M : Type 1} → statement M
+on-step-spec =
+    tie.close
+    (tie.spec
+    is-going-requires
+    refused-requires
+    returns
+    refused-requires-2
+    returns-2
+    add-body
+    read-amount-requires
+    enum-known-amount
+    enum-told
+    refused-requires-3
+    returns-3
+    step-requires
+    enum-known-answer
+    refused-requires-4
+    same-length
+    same-length-2
+    same-length-3
+    returns-4
+    enum-told-2
+    accepted-requires
+    same-length-4
+    same-length-5
+    same-length-6
+    returns-5)

@@ -1,0 +1,185 @@
+-- Checking a derivation: the records of document 01's derivation, what is refused, and what is confirmed.
+use mathlib.Core.Bool.{Bool, true, false, cond, not, _&&_}
+use mathlib.Core.List.{List, [], _∷_}
+use Prim.Native.Nat.{ℕ, suc, _+_, max}
+use lib.Dec.{eqb}
+use lib.IntN.{ℤ, pos}
+use lib.Signed.{leZ}
+use lib.ListN.{getD}
+use Rattle.term.specs.Term.{degreeOf}
+use Rattle.configuration.specs.Weight.{limit}
+use Rattle.configuration.specs.Configuration.{Line, line, some, weight, anyNegative}
+use Rattle.configuration.specs.Memory.{Memory, linesOf, imageOf, sized, wellFormed}
+use Rattle.configuration.specs.Replacement.{Step, taken, refused}
+use Rattle.refusal.specs.Refusal.{numberOf}
+use Rattle.calculus.specs.Calculus.{step}
+use Rattle.calculus.specs.declared.Rule.{Rule}
+use Rattle.calculus.specs.declared.Rule.the-variants.{Sum, Prod}
+use Rattle.calculus.specs.declared.Mode.{Mode}
+use Rattle.calculus.specs.declared.Mode.the-variants.{Plain, Signed}
+use Rattle.record.specs.Record.{whole, signedAt}
+use Rattle.walk.specs.Walk.{Outcome, accepted, turnedDown, unless, mapped, Progress, past, Reader, Stop, nothing, refusedFor, Walked, readAll}
+use Rattle.walk.specs.Work.{termAdded}
+use Rattle.derivation.specs.declared.Answer.{Answer}
+use Rattle.derivation.specs.declared.Answer.the-variants.{Confirmed, Refused}
+
+-- what the accepted records made: whether N or Z was among them, and the mode; whether f is set, and f (0 where it is not); the work polynomial; the
+-- lines; whether B was among them, and the claim
+pub record State : Type 0 where
+  pub started : Bool
+  pub mode : Mode
+  pub chosen : Bool
+  pub first : List ℕ
+  pub work : List ℕ
+  pub lines : List Line
+  pub closed : Bool
+  pub claim : ℤ
+
+abbrev pub fresh : List Line → State
+fresh L = record { started = false; mode = Plain; chosen = false; first = []; work = []; lines = L; closed = false; claim = pos 0 }
+
+-- between the mode and the claim
+abbrev pub going : State → Bool
+going x = x .started && not (x .closed)
+
+-- the state with another f, set or not, another work polynomial and other lines
+abbrev pub having : Bool → List ℕ → List ℕ → List Line → State → State
+having b f g L x = record { started = x .started; mode = x .mode; chosen = b; first = f; work = g; lines = L; closed = x .closed; claim = x .claim }
+
+-- the state with a mode, and the state with a claim
+abbrev pub begins : Mode → State → State
+begins d x = record {
+  started = true;
+  mode = d;
+  chosen = x .chosen;
+  first = x .first;
+  work = x .work;
+  lines = x .lines;
+  closed = x .closed;
+  claim = x .claim;
+}
+
+abbrev pub closes : ℤ → State → State
+closes w x = record {
+  started = x .started;
+  mode = x .mode;
+  chosen = x .chosen;
+  first = x .first;
+  work = x .work;
+  lines = x .lines;
+  closed = true;
+  claim = w;
+}
+
+-- N, Z: the mode
+abbrev pub onMode : Mode → Progress State → Outcome (Progress State)
+onMode d p =
+    unless (not (p .state .started)) 4
+    (accepted (past p 1 (begins d (p .state))))
+
+-- M: a term is added to the work polynomial
+abbrev pub onTerm : ℕ → List ℕ → Progress State → Outcome (Progress State)
+onTerm n s p =
+    let x = p .state in
+    unless (going x) 4
+    (mapped (λ g. past p 5 (having (x .chosen) (x .first) g (x .lines) x)) (termAdded n s (p .at + 1) (x .work)))
+
+-- K: the work polynomial becomes f, and is cleared
+abbrev pub onChoice : Progress State → Outcome (Progress State)
+onChoice p =
+    let x = p .state in
+    unless (going x && not (x .chosen)) 4
+    (accepted (past p 1 (having true (x .work) [] (x .lines) x)))
+
+-- the lines that a step leaves; f and the work polynomial are cleared
+abbrev pub stepped : Progress State → Step → Outcome (Progress State)
+stepped p (taken L) = accepted (past p 9 (having false [] [] L (p .state)))
+stepped p (refused n) = turnedDown n
+
+-- S, P: a step of f with the work polynomial
+abbrev pub onStep : Rule → List ℕ → Progress State → Outcome (Progress State)
+onStep r s p =
+    let x = p .state in
+    unless (going x && x .chosen) 4
+    (unless (whole 8 s (p .at + 1)) 3
+    (stepped p (step r (x .mode) (x .first) (x .work) (signedAt s (p .at + 1)) (x .lines))))
+
+-- a claim is from 0 to 10^12
+abbrev pub claimFits : ℤ → Bool
+claimFits w = leZ (pos 0) w && leZ w (pos limit)
+
+-- B: "A claim w is confirmed if no line is negative and w is at most the weight of the polynomial 1 (0 if not held)."
+abbrev pub onClaim : List ℕ → Progress State → Outcome (Progress State)
+onClaim s p =
+    let x = p .state in
+    let w = signedAt s (p .at + 1) in
+    unless (going x && (not (x .chosen) && not (some (x .work)))) 4
+    (unless (whole 8 s (p .at + 1)) 3
+    (unless (claimFits w) 8
+    (unless (not (anyNegative (x .lines))) 12
+    (unless (leZ w (weight (x .lines) (0 ∷ []))) 13
+    (accepted (past p 9 (closes w x)))))))
+
+-- the kinds are the letters N, Z, M, K, S, P and B; n is the number of variables
+unfoldable pub onRecord : ℕ → List ℕ → Progress State → Outcome (Progress State)
+onRecord n s p =
+    let kind = getD s (p .at) 0 in
+    cond (eqb kind 78) (onMode Plain p)
+    (cond (eqb kind 90) (onMode Signed p)
+    (cond (eqb kind 77) (onTerm n s p)
+    (cond (eqb kind 75) (onChoice p)
+    (cond (eqb kind 83) (onStep Sum s p)
+    (cond (eqb kind 80) (onStep Prod s p)
+    (cond (eqb kind 66) (onClaim s p)
+    (turnedDown 4)))))))
+
+-- at the end of the bytes B must have come
+abbrev pub checking : ℕ → Reader State
+checking n = record { onRecord = onRecord n; complete = λ x. x .closed }
+
+-- ---- "The derivation's degree is the largest degree of a term in the standing it leaves, 0 for an empty one"
+unfoldable pub degreeMax : List ℕ → ℕ
+degreeMax [] = 0
+degreeMax (t ∷ f) = max (degreeOf t) (degreeMax f)
+
+unfoldable pub degreeIn : List Line → ℕ
+degreeIn [] = 0
+degreeIn (line f w ∷ L) = max (degreeMax f) (degreeIn L)
+
+-- ---- checking in lent memory
+pub data Told : Type 0 where
+  confirmed : ℤ → ℕ → Told
+  refusedAt : ℕ → ℕ → Told
+
+-- the paper's words for an answer: claim and degree, or the record that a refusal names and its number
+abbrev pub toldOf : Answer → Told
+toldOf (Confirmed claim degree) = confirmed claim degree
+toldOf (Refused k reason) = refusedAt k (numberOf reason)
+
+-- "names the number of records accepted before it plus one"
+abbrev pub verdict : Progress State → Stop → Told
+verdict p nothing = confirmed (p .state .claim) (degreeIn (p .state .lines))
+verdict p (refusedFor n) = refusedAt (suc (p .records)) n
+
+pub record Left : Type 0 where
+  pub memory : Memory
+  pub told : Told
+
+abbrev pub leftOf : Memory → Answer → Left
+leftOf m a = record { memory = m; told = toldOf a }
+
+-- the areas hold what the accepted records made
+abbrev pub leaves : ℕ → Walked (Progress State) → Left
+leaves n r = record { memory = imageOf 128 n (r .reached .state .lines); told = verdict (r .reached) (r .stop) }
+
+-- the check of a derivation in memory that is known to be well formed
+abbrev pub checked : List ℕ → Memory → Left
+checked s m = leaves (m .variables) (readAll (checking (m .variables)) s (fresh (linesOf m)))
+
+-- nothing is changed where the lent memory is refused
+abbrev pub lentUnless : Bool → ℕ → Memory → Left → Left
+lentUnless true n m left = left
+lentUnless false n m left = record { memory = m; told = refusedAt 0 n }
+
+unfoldable pub checkDerivation : List ℕ → Memory → Left
+checkDerivation s m = lentUnless (sized 128 m) 1 m (lentUnless (wellFormed m) 2 m (checked s m))

@@ -1,0 +1,6 @@
+pub mod Derivation
+pub mod Held
+pub mod DerivationLaws
+pub mod CostRule
+pub mod DegreeLaws
+pub mod RefusedLaws

@@ -1,0 +1,255 @@
+// What each kind of record does in a derivation. These functions are for the walk over the records alone.
+use crate::Progress;
+use crate::Step;
+use calculus::Mode;
+use calculus::Rule;
+use calculus::step::step;
+use configuration::Head;
+use configuration::form::none_negative;
+use configuration::table::weight_of;
+use polynomial::Polynomial;
+use polynomial::held;
+use record::Amount;
+use record::read_amount;
+use refusal::Reason;
+use walk::Turn;
+use walk::add_term;
+ghost use mathlib.Core.Path.{_≡_};
+ghost use mathlib.Core.Bool.{true, _&&_, not};
+ghost use mathlib.Core.List.{List};
+ghost use Prim.Native.Nat.{ℕ, _+_, _≤_, _<_};
+ghost use lib.IntN.{ℤ};
+ghost use lib.ListN.{length};
+ghost use Rattle.polynomial.specs.Polynomial.{termsOf};
+ghost use Rattle.configuration.specs.Configuration.{some};
+ghost use Rattle.walk.specs.Walk.{stopOf, after};
+ghost use Rattle.derivation.specs.Derivation.{claimFits, onMode, onTerm, onChoice, onStep, onClaim};
+ghost use Rattle.derivation.specs.Held.{progressOf, Ready};
+
+// A refused record.
+pub fn refused(p: Progress, reason: Reason) -> Step
+    ensures { λ r. ⌜ r ≡ record { progress = p; turn = Turn.Refused reason } ⌝ }
+{
+    Step {
+        progress: p,
+        turn: Turn::Refused(reason),
+    }
+}
+
+// Whether the mode has come, and the claim has not.
+fn is_going(p: Progress) -> bool
+    ensures { λ r. ⌜ r ≡ (p .started && not (p .closed)) ⌝ }
+{
+    if !p.started {
+        return false;
+    }
+    !p.closed
+}
+
+// Whether, besides, neither f is set nor the work polynomial has a term.
+fn is_idle(p: Progress) -> bool
+    ensures { λ r. ⌜ r ≡ ((p .started && not (p .closed)) && (not (p .chosen) && not (some (termsOf (p .work))))) ⌝ }
+{
+    if !is_going(p) {
+        return false;
+    }
+    if p.chosen {
+        return false;
+    }
+    held(p.work) == 0
+}
+
+// An accepted record of so many bytes, which leaves f, set or not, a work polynomial and a head.
+fn accepted(
+    p: Progress,
+    size: usize,
+    chosen: bool,
+    first: Polynomial,
+    work: Polynomial,
+    head: Head,
+) -> Step
+    requires { ⌜ (p .at + size < 18446744073709551616) × (p .records < 18446744073709551615) ⌝ }
+    ensures { λ r. ⌜ r ≡ record { progress = record { at = p .at + size; records = p .records + 1; started = p .started; mode = p .mode; chosen = chosen; first = first; work = work; head = head; closed = p .closed; claim = p .claim }; turn = Turn.Accepted } ⌝ }
+{
+    let mode = p.mode;
+    Step {
+        progress: Progress {
+            at: p.at + size,
+            records: p.records + 1,
+            started: p.started,
+            mode,
+            chosen,
+            first,
+            work,
+            head,
+            closed: p.closed,
+            claim: p.claim,
+        },
+        turn: Turn::Accepted,
+    }
+}
+
+// N, Z: the mode.
+pub fn on_mode(p: Progress, mode: Mode) -> Step
+    requires { ⌜ (p .at < 18446744073709551615) × (p .records ≤ p .at) ⌝ }
+    ensures step { λ r. ⌜ ((ts : List ℕ) (ws : List ℤ) (cs : List ℕ) → Ready (p .head .variables) p ts ws cs → record { reached = progressOf (r .progress) ts ws cs; stop = stopOf (r .turn) } ≡ after (progressOf p ts ws cs) (onMode mode (progressOf p ts ws cs))) ⌝ }
+    ensures ready { λ r. ⌜ ((ts : List ℕ) (ws : List ℤ) (cs : List ℕ) → Ready (p .head .variables) p ts ws cs → Ready (p .head .variables) (r .progress) ts ws cs) ⌝ }
+{
+    if p.started {
+        return refused(p, Reason::Misplaced);
+    }
+    let first = p.first;
+    let work = p.work;
+    let head = p.head;
+    Step {
+        progress: Progress {
+            at: p.at + 1,
+            records: p.records + 1,
+            started: true,
+            mode,
+            chosen: p.chosen,
+            first,
+            work,
+            head,
+            closed: p.closed,
+            claim: p.claim,
+        },
+        turn: Turn::Accepted,
+    }
+}
+
+// M: a term is added to the work polynomial.
+pub fn on_term(bytes: &[u8], p: Progress) -> Step
+    requires { ⌜ (p .at < length (now bytes)) × (p .records ≤ p .at) ⌝ }
+    ensures step { λ r. ⌜ ((ts : List ℕ) (ws : List ℤ) (cs : List ℕ) → Ready (p .head .variables) p ts ws cs → record { reached = progressOf (r .progress) ts ws cs; stop = stopOf (r .turn) } ≡ after (progressOf p ts ws cs) (onTerm (p .head .variables) (now (bytes .entry)) (progressOf p ts ws cs))) ⌝ }
+    ensures ready { λ r. ⌜ ((ts : List ℕ) (ws : List ℤ) (cs : List ℕ) → Ready (p .head .variables) p ts ws cs → Ready (p .head .variables) (r .progress) ts ws cs) ⌝ }
+{
+    if !is_going(p) {
+        return refused(p, Reason::Misplaced);
+    }
+    let head = p.head;
+    let first = p.first;
+    let work = p.work;
+    let added = add_term(head.variables, bytes, p.at + 1, work);
+    let turn = added.turn;
+    if let Turn::Refused(reason) = turn {
+        return refused(p, reason);
+    }
+    let sum = added.polynomial;
+    accepted(p, 5, p.chosen, first, sum, head)
+}
+
+// K: the work polynomial becomes f, and is cleared.
+pub fn on_choice(p: Progress) -> Step
+    requires { ⌜ (p .at < 18446744073709551615) × (p .records ≤ p .at) ⌝ }
+    ensures step { λ r. ⌜ ((ts : List ℕ) (ws : List ℤ) (cs : List ℕ) → Ready (p .head .variables) p ts ws cs → record { reached = progressOf (r .progress) ts ws cs; stop = stopOf (r .turn) } ≡ after (progressOf p ts ws cs) (onChoice (progressOf p ts ws cs))) ⌝ }
+    ensures ready { λ r. ⌜ ((ts : List ℕ) (ws : List ℤ) (cs : List ℕ) → Ready (p .head .variables) p ts ws cs → Ready (p .head .variables) (r .progress) ts ws cs) ⌝ }
+{
+    if !is_going(p) {
+        return refused(p, Reason::Misplaced);
+    }
+    if p.chosen {
+        return refused(p, Reason::Misplaced);
+    }
+    let work = p.work;
+    let head = p.head;
+    accepted(p, 1, true, work, Polynomial::ZERO, head)
+}
+
+// S, P: a step of f with the work polynomial; both are cleared.
+pub fn on_step(
+    bytes: &[u8],
+    p: Progress,
+    terms: &mut [u32],
+    weights: &mut [i64],
+    counts: &mut [u32],
+    rule: Rule,
+) -> Step
+    requires { ⌜ (p .at < length (now bytes)) × Ready (p .head .variables) p (now terms) (now weights) (now counts) ⌝ }
+    ensures step { λ r. ⌜ record { reached = progressOf (r .progress) (now (terms .exit)) (now (weights .exit)) (now (counts .exit)); stop = stopOf (r .turn) } ≡ after (progressOf p (now (terms .entry)) (now (weights .entry)) (now (counts .entry))) (onStep rule (now (bytes .entry)) (progressOf p (now (terms .entry)) (now (weights .entry)) (now (counts .entry)))) ⌝ }
+    ensures ready { λ r. ⌜ Ready (p .head .variables) (r .progress) (now (terms .exit)) (now (weights .exit)) (now (counts .exit)) ⌝ }
+{
+    if !is_going(p) {
+        return refused(p, Reason::Misplaced);
+    }
+    if !p.chosen {
+        return refused(p, Reason::Misplaced);
+    }
+    let body = p.at + 1;
+    let Amount::Whole(amount) = read_amount(bytes, body) else {
+        return refused(p, Reason::CutShort);
+    };
+    let f = p.first;
+    let g = p.work;
+    let head = p.head;
+    let mode = p.mode;
+    let stepped = step(head, terms, weights, counts, rule, mode, f, g, amount);
+    let left = stepped.head;
+    let answer = stepped.answer;
+    if let calculus::Answer::Refused(_, reason) = answer {
+        return refused(p, reason);
+    }
+    accepted(p, 9, false, Polynomial::ZERO, Polynomial::ZERO, left)
+}
+
+// Whether a claim is from 0 to 10^12.
+fn claim_fits(claim: i64) -> bool
+    ensures { λ r. ⌜ r ≡ claimFits claim ⌝ }
+{
+    if claim < 0 {
+        return false;
+    }
+    claim <= 1000000000000
+}
+
+// An accepted claim: the record is the last.
+fn closed_with(p: Progress, claim: i64) -> Step
+    requires { ⌜ (p .at + 9 < 18446744073709551616) × (p .records < 18446744073709551615) ⌝ }
+    ensures { λ r. ⌜ r ≡ record { progress = record { at = p .at + 9; records = p .records + 1; started = p .started; mode = p .mode; chosen = p .chosen; first = p .first; work = p .work; head = p .head; closed = true; claim = claim }; turn = Turn.Accepted } ⌝ }
+{
+    let mode = p.mode;
+    let first = p.first;
+    let work = p.work;
+    let head = p.head;
+    Step {
+        progress: Progress {
+            at: p.at + 9,
+            records: p.records + 1,
+            started: p.started,
+            mode,
+            chosen: p.chosen,
+            first,
+            work,
+            head,
+            closed: true,
+            claim,
+        },
+        turn: Turn::Accepted,
+    }
+}
+
+// B: the claim is at most the weight of the polynomial 1, and no line is negative.
+pub fn on_claim(bytes: &[u8], p: Progress, terms: &[u32], weights: &[i64], counts: &[u32]) -> Step
+    requires { ⌜ (p .at < length (now bytes)) × Ready (p .head .variables) p (now terms) (now weights) (now counts) ⌝ }
+    ensures step { λ r. ⌜ record { reached = progressOf (r .progress) (now (terms .entry)) (now (weights .entry)) (now (counts .entry)); stop = stopOf (r .turn) } ≡ after (progressOf p (now (terms .entry)) (now (weights .entry)) (now (counts .entry))) (onClaim (now (bytes .entry)) (progressOf p (now (terms .entry)) (now (weights .entry)) (now (counts .entry)))) ⌝ }
+    ensures ready { λ r. ⌜ Ready (p .head .variables) (r .progress) (now (terms .entry)) (now (weights .entry)) (now (counts .entry)) ⌝ }
+{
+    if !is_idle(p) {
+        return refused(p, Reason::Misplaced);
+    }
+    let Amount::Whole(claim) = read_amount(bytes, p.at + 1) else {
+        return refused(p, Reason::CutShort);
+    };
+    if !claim_fits(claim) {
+        return refused(p, Reason::OutOfRange);
+    }
+    let head = p.head;
+    if !none_negative(head.lines as usize, weights) {
+        return refused(p, Reason::NegativeLine);
+    }
+    let one = [0u32];
+    if weight_of(head, terms, weights, counts, &one) < claim {
+        return refused(p, Reason::ClaimTooHigh);
+    }
+    closed_with(p, claim)
+}

@@ -1,0 +1,198 @@
+// Checking a derivation.
+mod entry;
+
+use calculus::Mode;
+use calculus::Rule;
+use configuration::Head;
+use configuration::form::well_formed;
+use entry::on_choice;
+use entry::on_claim;
+use entry::on_mode;
+use entry::on_step;
+use entry::on_term;
+use entry::refused;
+use polynomial::Polynomial;
+use refusal::Reason;
+use term::degree;
+use walk::Turn;
+ghost use mathlib.Core.Path.{_≡_};
+ghost use mathlib.Core.Bool.{cond};
+ghost use Prim.Native.Nat.{_<_};
+ghost use lib.Dec.{T};
+ghost use lib.ListN.{length};
+ghost use Rattle.configuration.specs.Memory.{memoryOf, linesIn, wellFormed};
+ghost use Rattle.walk.specs.Walk.{nothing, refusedFor, stopOf, after};
+ghost use Rattle.derivation.specs.Derivation.{onRecord, degreeIn, toldOf, verdict, leftOf, checked, checkDerivation};
+ghost use Rattle.derivation.specs.Held.{progressOf, Ready};
+
+// What a check answers: the claim and the degree, or a refusal with the record that it names, 0 where the lent areas are
+// refused, and its reason.
+pub enum Answer {
+    Confirmed(i64, u32),
+    Refused(u64, Reason),
+}
+
+// What a check leaves: the head, and the answer.
+pub struct Report {
+    pub head: Head,
+    pub answer: Answer,
+}
+
+// How far a check has come: where the next record begins, how many are accepted, whether N or Z was among them, the mode,
+// whether f is set, f, the work polynomial, the head, whether B was among them, the claim.
+pub struct Progress {
+    pub at: usize,
+    pub records: u64,
+    pub started: bool,
+    pub mode: Mode,
+    pub chosen: bool,
+    pub first: Polynomial,
+    pub work: Polynomial,
+    pub head: Head,
+    pub closed: bool,
+    pub claim: i64,
+}
+
+// The progress that one record leaves, and the answer for it. A refused record leaves all as it was.
+pub struct Step {
+    pub progress: Progress,
+    pub turn: Turn,
+}
+
+// One record: its kind, then its place and its body.
+fn on_record(
+    bytes: &[u8],
+    p: Progress,
+    terms: &mut [u32],
+    weights: &mut [i64],
+    counts: &mut [u32],
+) -> Step
+    requires { ⌜ (p .at < length (now bytes)) × Ready (p .head .variables) p (now terms) (now weights) (now counts) ⌝ }
+    ensures step { λ r. ⌜ record { reached = progressOf (r .progress) (now (terms .exit)) (now (weights .exit)) (now (counts .exit)); stop = stopOf (r .turn) } ≡ after (progressOf p (now (terms .entry)) (now (weights .entry)) (now (counts .entry))) (onRecord (p .head .variables) (now (bytes .entry)) (progressOf p (now (terms .entry)) (now (weights .entry)) (now (counts .entry)))) ⌝ }
+    ensures ready { λ r. ⌜ Ready (p .head .variables) (r .progress) (now (terms .exit)) (now (weights .exit)) (now (counts .exit)) ⌝ }
+{
+    let at = p.at;
+    let kind = bytes[at];
+    if kind == b'M' {
+        return on_term(bytes, p);
+    }
+    if kind == b'K' {
+        return on_choice(p);
+    }
+    if kind == b'S' {
+        return on_step(bytes, p, terms, weights, counts, Rule::Sum);
+    }
+    if kind == b'P' {
+        return on_step(bytes, p, terms, weights, counts, Rule::Prod);
+    }
+    if kind == b'B' {
+        return on_claim(bytes, p, terms, weights, counts);
+    }
+    if kind == b'N' {
+        return on_mode(p, Mode::Plain);
+    }
+    if kind == b'Z' {
+        return on_mode(p, Mode::Signed);
+    }
+    refused(p, Reason::Misplaced)
+}
+
+// The degree of a configuration: that of the first term of its first line, since lines and terms stand in order.
+fn degree_of(head: Head, terms: &[u32], weights: &[i64], counts: &[u32]) -> u32
+    requires { ⌜ T (wellFormed (memoryOf head (now terms) (now weights) (now counts))) ⌝ }
+    ensures { λ r. ⌜ r ≡ degreeIn (linesIn head (now (terms .entry)) (now (weights .entry)) (now (counts .entry))) ⌝ }
+{
+    if head.lines == 0 {
+        return 0;
+    }
+    degree(terms[0])
+}
+
+// The end of the bytes: B must have come.
+fn finish(p: Progress, terms: &[u32], weights: &[i64], counts: &[u32]) -> Answer
+    requires { ⌜ T (wellFormed (memoryOf (p .head) (now terms) (now weights) (now counts))) × (p .records < 18446744073709551615) ⌝ }
+    ensures { λ r. ⌜ toldOf r ≡ verdict (progressOf p (now (terms .entry)) (now (weights .entry)) (now (counts .entry))) (cond (p .closed) nothing (refusedFor 15)) ⌝ }
+{
+    if !p.closed {
+        return Answer::Refused(p.records + 1, Reason::Unfinished);
+    }
+    let degree = degree_of(p.head, terms, weights, counts);
+    Answer::Confirmed(p.claim, degree)
+}
+
+// Reads the records one after the other, up to the first that is refused, in a configuration that is known to be well
+// formed.
+fn read_records(
+    bytes: &[u8],
+    head: Head,
+    terms: &mut [u32],
+    weights: &mut [i64],
+    counts: &mut [u32],
+) -> Report
+    requires { ⌜ T (wellFormed (memoryOf head (now terms) (now weights) (now counts))) ⌝ }
+    ensures { λ r. ⌜ leftOf (memoryOf (r .head) (now (terms .exit)) (now (weights .exit)) (now (counts .exit))) (r .answer) ≡ checked (now (bytes .entry)) (memoryOf head (now (terms .entry)) (now (weights .entry)) (now (counts .entry))) ⌝ }
+{
+    let mut p = Progress {
+        at: 0,
+        records: 0,
+        started: false,
+        mode: Mode::Plain,
+        chosen: false,
+        first: Polynomial::ZERO,
+        work: Polynomial::ZERO,
+        head,
+        closed: false,
+        claim: 0,
+    };
+    while p.at < bytes.len() {
+        let step = on_record(bytes, p, terms, weights, counts);
+        let progress = step.progress;
+        p = progress;
+        let turn = step.turn;
+        if let Turn::Refused(reason) = turn {
+            let head = p.head;
+            return Report {
+                head,
+                answer: Answer::Refused(p.records + 1, reason),
+            };
+        }
+    }
+    let head = p.head;
+    let answer = finish(p, terms, weights, counts);
+    Report { head, answer }
+}
+
+// A check that is refused because of the lent areas: it names record 0 and changes nothing.
+fn turned_away(head: Head, reason: Reason) -> Report
+    ensures { λ r. ⌜ r ≡ record { head = head; answer = Answer.Refused 0 reason } ⌝ }
+{
+    Report {
+        head,
+        answer: Answer::Refused(0, reason),
+    }
+}
+
+// Checks the derivation that the bytes are, in lent areas of any lengths and contents.
+pub fn check_derivation(
+    bytes: &[u8],
+    head: Head,
+    terms: &mut [u32],
+    weights: &mut [i64],
+    counts: &mut [u32],
+) -> Report
+    ensures { λ r. ⌜ leftOf (memoryOf (r .head) (now (terms .exit)) (now (weights .exit)) (now (counts .exit))) (r .answer) ≡ checkDerivation (now (bytes .entry)) (memoryOf head (now (terms .entry)) (now (weights .entry)) (now (counts .entry))) ⌝ }
+{
+    if terms.len() != 8192 {
+        return turned_away(head, Reason::WrongLength);
+    }
+    if weights.len() != 128 {
+        return turned_away(head, Reason::WrongLength);
+    }
+    if counts.len() != 128 {
+        return turned_away(head, Reason::WrongLength);
+    }
+    if !well_formed(head, terms, weights, counts) {
+        return turned_away(head, Reason::IllFormed);
+    }
+    read_records(bytes, head, terms, weights, counts)
+}
