@@ -41,7 +41,7 @@ slice-aggregate-put-text c = search needs
 put-text-requires : tie.Need-put-text-requires Inv-loop μ-loop
 put-text-requires c κs =
     let l = c .before .before in
-    (l .before .before .before .before .before .pre, c .before .loop-test .taken, omega (arith, l .loop .inv .2))
+    (l .before .before .before .before .before .pre, omega (arith, c .before .loop-test .taken), omega (arith, l .loop .inv .2))
 
 array-share-prefix-text : tie.Need-array-share-prefix-text Inv-loop μ-loop
 array-share-prefix-text c = search needs
@@ -67,7 +67,7 @@ loop-again c =
     let s = l .before .before .before .before .before in
     let p = c .before .before .before .put-text in (
       one-less (s .args .head .lines) (l .loop .number) (l .loop .code) (s .args .head .variables) (linesOf (memory s)) (l .loop .text) (p .last .0) (p .result)
-          (c .add-bytes .result) (k .loop-test .taken) (p .ensures .0) (p .ensures .1 .0) (c .add-bytes .ensures)
+          (c .add-bytes .result) (omega (arith, k .loop-test .taken)) (p .ensures .0) (p .ensures .1 .0) (c .add-bytes .ensures)
           ∙ l .loop .inv .0,
       omega (arith, k .loop-test .taken),
       p .kept .0 ∙ l .loop .inv .2,

@@ -1,0 +1,88 @@
+-- `problem_line` meets its contract: the code of what was filed, or what was refused.
+use mathlib.Core.Path.{ap, _∙_}
+use mathlib.Core.List.{List}
+use Prim.Native.Nat.{ℕ}
+use borrow.Author.Needs.{needs}
+use Rattle.configuration.specs.Memory.{Memory, memoryOf}
+use Rattle.report.specs.Report.{textOf}
+use Rattle.report.proofs.Outputs.{left-wellFormed, code-told, refusal-told}
+use Rattle.report.proofs.problem_line.Statement.{statement}
+use Rattle.report.proofs.problem_line.Tie as tie
+
+-- the problem, and what the filing left
+abbrev problem : tie.After-file-problem → List ℕ
+problem c = c .before .before .before .before .before .args .bytes .now
+
+abbrev memory : tie.After-file-problem → Memory
+memory c = let h = c .file-problem in memoryOf (h .result .head) (h .last .1 .0) (h .last .1 .1 .0) (h .last .1 .1 .1 .0)
+
+slice-aggregate-file-problem : tie.Need-slice-aggregate-file-problem
+slice-aggregate-file-problem c = search needs
+
+slice-aggregate-file-problem-2 : tie.Need-slice-aggregate-file-problem-2
+slice-aggregate-file-problem-2 c = search needs
+
+slice-aggregate-file-problem-3 : tie.Need-slice-aggregate-file-problem-3
+slice-aggregate-file-problem-3 c = search needs
+
+file-problem-requires : tie.Need-file-problem-requires
+file-problem-requires c κs = search needs
+
+enum-told : tie.Need-enum-told
+enum-told c = search needs
+
+slice-aggregate-code-of : tie.Need-slice-aggregate-code-of
+slice-aggregate-code-of c = search needs
+
+slice-aggregate-code-of-2 : tie.Need-slice-aggregate-code-of-2
+slice-aggregate-code-of-2 c = search needs
+
+slice-aggregate-code-of-3 : tie.Need-slice-aggregate-code-of-3
+slice-aggregate-code-of-3 c = search needs
+
+code-of-requires : tie.Need-code-of-requires
+code-of-requires c κs =
+    let k = c .before .before .before .before .before .before .before .before .before in
+    left-wellFormed (problem k) (memory k) (k .file-problem .result .answer) (k .file-problem .ensures)
+
+code-line-requires : tie.Need-code-line-requires
+code-line-requires c κs = search needs
+
+enum-told-2 : tie.Need-enum-told-2
+enum-told-2 c = search needs
+
+filing-line-requires : tie.Need-filing-line-requires
+filing-line-requires c κs = search needs
+
+returns : tie.Need-returns
+returns c =
+    let k = c .before .before .before .before .before .before .before .before .before .before .before in
+    c .code-line .ensures
+    ∙ ap textOf (code-told (problem k) (memory k) (k .file-problem .result .answer) (k .file-problem .ensures) (c .before .code-of .result)
+    (c .before .before .before .before .before .enum-told .given .1) (c .before .code-of .ensures))
+
+returns-2 : tie.Need-returns-2
+returns-2 c =
+    let k = c .before .before .before .before .before .before .before in
+    let g = c .before .enum-told2 .given in
+    c .filing-line .ensures
+    ∙ ap textOf (refusal-told (problem k) (memory k) (k .file-problem .result .answer) (k .file-problem .ensures) (g .0 .0) (g .0 .1 .0) (g .1))
+
+pub problem-line-spec : {M : Type 1} → statement M
+problem-line-spec =
+    tie.close
+    (tie.spec
+    slice-aggregate-file-problem
+    slice-aggregate-file-problem-2
+    slice-aggregate-file-problem-3
+    file-problem-requires
+    enum-told
+    slice-aggregate-code-of
+    slice-aggregate-code-of-2
+    slice-aggregate-code-of-3
+    code-of-requires
+    code-line-requires
+    enum-told-2
+    filing-line-requires
+    returns
+    returns-2)

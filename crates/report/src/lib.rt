@@ -1,0 +1,111 @@
+// The lines that the programs print besides the listings.
+use listing::code::code_of;
+use listing::text::put_bytes;
+use listing::text::put_decimal;
+use listing::text::put_weight;
+use problem::file_problem;
+use refusal::Reason;
+use refusal::number;
+ghost use mathlib.Core.Path.{_≡_};
+ghost use Prim.Native.Nat.{_+_, _≤_, min};
+ghost use lib.ListN.{length};
+ghost use Rattle.problem.specs.Problem.{toldOf as toldOfFiling};
+ghost use Rattle.derivation.specs.Derivation.{toldOf};
+ghost use Rattle.refusal.specs.Refusal.{numberOf};
+ghost use Rattle.listing.specs.Writing.{overwritten};
+ghost use Rattle.report.specs.Report.{refusalText, confirmedText, filingText, verdictText, codeText, codeOutput, textOf};
+
+// A text by value, from the front of the bytes; unused places are zero.
+pub struct Text {
+    pub bytes: [u8; 64],
+    pub size: usize,
+}
+
+// How many bytes of a text there are to print: every text that is made here has at most 64.
+pub fn held(text: Text) -> usize
+    ensures count { λ r. ⌜ r ≡ min (text .size) 64 ⌝ }
+    ensures places { λ _. ⌜ length (text .bytes) ≡ 64 ⌝ }
+{
+    let size = text.size;
+    if size < 64 { size } else { 64 }
+}
+
+// What was refused and where, from a place in the bytes on.
+fn put_refusal(out: &mut [u8], at: usize, place: u64, reason: Reason) -> usize
+    requires { ⌜ at + length (refusalText (numberOf reason) place) ≤ length (now out) ⌝ }
+    ensures end { λ r. ⌜ r ≡ at + length (refusalText (numberOf reason) place) ⌝ }
+    ensures text { λ _. ⌜ now (out .exit) ≡ overwritten (now (out .entry)) at (refusalText (numberOf reason) place) ⌝ }
+{
+    let kind = number(reason) as u64;
+    let said = put_bytes(out, at, b"refused ");
+    let numbered = put_decimal(out, said, kind);
+    let placed = put_bytes(out, numbered, b" at record ");
+    let counted = put_decimal(out, placed, place);
+    put_bytes(out, counted, b"\n")
+}
+
+// A confirmed claim and the degree, from the front of the bytes.
+fn put_confirmation(out: &mut [u8], claim: i64, degree: u32) -> usize
+    requires { ⌜ length (confirmedText claim degree) ≤ length (now out) ⌝ }
+    ensures end { λ r. ⌜ r ≡ length (confirmedText claim degree) ⌝ }
+    ensures text { λ _. ⌜ now (out .exit) ≡ overwritten (now (out .entry)) 0 (confirmedText claim degree) ⌝ }
+{
+    let said = put_bytes(out, 0, b"confirmed ");
+    let claimed = put_weight(out, said, claim);
+    let named = put_bytes(out, claimed, b" degree ");
+    let counted = put_decimal(out, named, degree as u64);
+    put_bytes(out, counted, b"\n")
+}
+
+// The line of a filing: nothing where it is accepted.
+pub fn filing_line(answer: problem::Answer) -> Text
+    ensures { λ r. ⌜ r ≡ textOf (filingText (toldOfFiling answer)) ⌝ }
+{
+    let mut bytes = [0u8; 64];
+    let mut size: usize = 0;
+    if let problem::Answer::Refused(place, reason) = answer {
+        let at = put_bytes(&mut bytes, 0, b"problem ");
+        size = put_refusal(&mut bytes, at, place, reason);
+    }
+    Text { bytes, size }
+}
+
+// The verdict on a derivation.
+pub fn verdict_line(answer: derivation::Answer) -> Text
+    ensures { λ r. ⌜ r ≡ textOf (verdictText (toldOf answer)) ⌝ }
+{
+    let mut bytes = [0u8; 64];
+    let size = match answer {
+        derivation::Answer::Confirmed(claim, degree) => put_confirmation(&mut bytes, claim, degree),
+        derivation::Answer::Refused(place, reason) => put_refusal(&mut bytes, 0, place, reason),
+    };
+    Text { bytes, size }
+}
+
+// A code as sixteen lower-case digits.
+pub fn code_line(code: u64) -> Text
+    ensures { λ r. ⌜ r ≡ textOf (codeText code) ⌝ }
+{
+    let mut digits = [0u8; 16];
+    let count = io::hex(code, 16, &mut digits);
+    let mut bytes = [0u8; 64];
+    let end = put_bytes(&mut bytes, 0, &digits[..count]);
+    let size = put_bytes(&mut bytes, end, b"\n");
+    Text { bytes, size }
+}
+
+// What there is to tell of a problem's bytes: the line of its code, or of what was refused.
+pub fn problem_line(bytes: &[u8]) -> Text
+    ensures { λ r. ⌜ r ≡ textOf (codeOutput (now (bytes .entry))) ⌝ }
+{
+    let mut terms = [0u32; 8192];
+    let mut weights = [0i64; 128];
+    let mut counts = [0u32; 128];
+    let filed = file_problem(bytes, &mut terms, &mut weights, &mut counts);
+    let head = filed.head;
+    let answer = filed.answer;
+    match answer {
+        problem::Answer::Filed => code_line(code_of(head, &terms, &weights, &counts)),
+        _ => filing_line(answer),
+    }
+}
