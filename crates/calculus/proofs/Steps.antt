@@ -5,14 +5,12 @@ use mathlib.Core.List.{List, [], _∷_, _++_}
 use Prim.Native.Nat.{ℕ, zero, suc, _-_, _≤_, _<_, _^_}
 use native.Mathlib.Nat.{le-trans}
 use native.Mathlib.Omega.{arith}
-use lib.Dec.{T, leb, leb→le, ltb, ltb→lt, eqb, eqb→eq}
+use lib.Dec.{T, leb, leb→le}
 use lib.IntN.{ℤ, pos, negsuc, _+ℤ_, negℤ, +ℤ-idl, +ℤ-idr}
 use lib.ListN.{length, replicate}
 use lib.Pow.{pow-mono}
 use lib.Seq.{take-at}
 use lib.Signed.{leZ, mag}
-use borrow.Author.Tests.{eq-eqb}
-use Rattle.run.specs.Boolean as B
 use Rattle.run.specs.Boolean.{is-false, of-true}
 use Rattle.run.specs.Run.{sorted}
 use Rattle.term.specs.Term.{before}
@@ -21,15 +19,16 @@ use Rattle.polynomial.specs.OrderingLaws.{order-self, order-same}
 use Rattle.polynomial.specs.declared.Polynomial.{Polynomial}
 use Rattle.polynomial.specs.declared.Ordering.the-variants.{Same}
 use Rattle.configuration.specs.Weight.{limit, inRange}
-use Rattle.configuration.specs.Configuration.{Line, line, some, same, total, weight, add, addAll, negated, Every, below, isPolynomial, weightsFit, anyNegative}
+use Rattle.configuration.specs.Configuration.{Line, line, some, same, total, weight, add, addAll, negated, Every, below, isPolynomial, anyNegative}
 use Rattle.configuration.specs.ConfigurationLaws.{same-is, same-self}
 use Rattle.configuration.specs.Memory.{Memory, linesOf, sized, formed, wellFormed}
-use Rattle.configuration.specs.MemoryLaws.{every-append, formed-parts}
-use Rattle.configuration.specs.Replacement.{Step, taken, refused, unless, within, changesOf, Small, Replacement, verdictNumber, replacementOf, after}
+use Rattle.configuration.specs.FormLaws.{polynomial-below, sized-not, sized-is}
+use Rattle.configuration.specs.MemoryLaws.{well-formed, every-append, formed-parts}
+use Rattle.configuration.specs.ReplacementLaws.{Says, says}
+use Rattle.configuration.specs.Replacement.{Step, taken, refused, unless, within, changesOf, Small, replacementOf, after}
 use Rattle.configuration.specs.declared.Verdict.{Verdict}
 use Rattle.configuration.specs.declared.Verdict.the-variants.{Done, TooManyLines, WeightTooLarge}
-use Rattle.refusal.specs.declared.Reason.the-variants as Reasons
-use Rattle.calculus.specs.Calculus.{premises, conclusions, changes, isPlain, amountFits, covers, there, allShort, step, objected, Told, done, refusedAt, Left, leftOf, leaves, judged, directStep}
+use Rattle.calculus.specs.Calculus.{premises, conclusions, changes, isPlain, amountFits, covers, there, allShort, step, objected, leftOf, leaves, judged, directStep}
 use Rattle.calculus.specs.CalculusLaws.{unless-taken, changes-fit, regroup}
 use Rattle.calculus.specs.declared.plan.Plan.{Plan}
 use Rattle.calculus.specs.declared.Rule.{Rule}
@@ -40,6 +39,8 @@ use Rattle.calculus.specs.declared.Objection.{Objection}
 use Rattle.calculus.specs.declared.Objection.the-variants.{Nothing}
 use Rattle.calculus.specs.declared.Answer.{Answer}
 use Rattle.calculus.specs.declared.Answer.the-variants.{Taken, Refused}
+use Rattle.run.specs.Boolean as B
+use Rattle.refusal.specs.declared.Reason.the-variants as Reasons
 
 -- ---- what is held of a polynomial
 pub held-nothing : (f : List ℕ) (b : Bool) → length f ≡ 0 → true ≡ cond (some f) b true
@@ -158,19 +159,15 @@ module _ (n : ℕ) (f g : List ℕ) (w : ℤ) where
 
 -- ---- the terms of a configuration's polynomials are 32-bit numbers
 pub below-32 : (n : ℕ) (f : List ℕ) → n ≤ 32 → T (isPolynomial n f) → Below 32 f
-unfolding below
-below-32 n f h k = go f (B.left (below n f) (sorted before f) (B.right (leb (length f) 64) (below n f && sorted before f) k))
+below-32 n f h k = go f (polynomial-below n f k)
   where
-    go : (f : List ℕ) → T (below n f) → Below 32 f
+    go : (f : List ℕ) → Below n f → Below 32 f
     go [] k = tt
-    go (t ∷ f) k = (le-trans (ltb→lt t (2 ^ n) (B.left (ltb t (2 ^ n)) (below n f) k)) (pow-mono h), go f (B.right (ltb t (2 ^ n)) (below n f) k))
-
-pub few-variables : (m : Memory) → T (wellFormed m) → m .variables ≤ 32
-few-variables m h = leb→le (m .variables) 32 (B.left (leb (m .variables) 32) (weightsFit (linesOf m)) (B.right (formed 128 m) (leb (m .variables) 32 && weightsFit (linesOf m)) h))
+    go (t ∷ f) k = (le-trans (k .0) (pow-mono h), go f (k .1))
 
 pub table-formed : (m : Memory) → T (wellFormed m) → T (formed (length (m .counts)) m)
 table-formed m h =
-    let t : T (formed 128 m) = B.left (formed 128 m) (leb (m .variables) 32 && weightsFit (linesOf m)) h in
+    let t : T (formed 128 m) = well-formed m h in
     subst (λ (k : ℕ). T (formed k m)) (sym (formed-parts 128 m t .counts-length)) t
 
 -- ---- three tests in a row that answer nothing all hold
@@ -207,25 +204,12 @@ answered TooManyLines = Refused 0 Reasons.TooManyLines
 answered WeightTooLarge = Refused 0 Reasons.WeightTooLarge
 
 pub answered-is : (m n : Memory) (v : Verdict) (N : List Line) → replacementOf n v ≡ after m (within N) → leftOf n (answered v) ≡ leaves m (within N)
-unfolding within
-answered-is m n v N = go (leb (length N) 128) (weightsFit N) v
+answered-is m n v N e = go v (says m n N v e)
   where
-    other : {A : Type 0} (v : Verdict) (a : Replacement) → replacementOf n v ≡ a → (verdictNumber v ≡ a .number → ⊥) → A
-    other v a e k = absurd (k (ap (λ (x : Replacement). x .number) e))
-
-    having : Told → Replacement → Left
-    having t x = record { memory = x .memory; told = t }
-
-    go : (a b : Bool) (v : Verdict) → replacementOf n v ≡ after m (unless a 10 (unless b 11 (taken N))) → leftOf n (answered v) ≡ leaves m (unless a 10 (unless b 11 (taken N)))
-    go true true Done e = ap (having done) e
-    go true true TooManyLines e = other TooManyLines _ e (λ z. omega arith)
-    go true true WeightTooLarge e = other WeightTooLarge _ e (λ z. omega arith)
-    go true false Done e = other Done _ e (λ z. omega arith)
-    go true false TooManyLines e = other TooManyLines _ e (λ z. omega arith)
-    go true false WeightTooLarge e = ap (having (refusedAt 0 11)) e
-    go false b Done e = other Done _ e (λ z. omega arith)
-    go false b TooManyLines e = ap (having (refusedAt 0 10)) e
-    go false b WeightTooLarge e = other WeightTooLarge _ e (λ z. omega arith)
+    go : (v : Verdict) → Says m n N (within N) v → leftOf n (answered v) ≡ leaves m (within N)
+    go Done h = rw (h .0) (ap (λ (x : Memory). leftOf x Taken) (h .1))
+    go TooManyLines h = rw (h .0) (ap (λ (x : Memory). leftOf x (Refused 0 Reasons.TooManyLines)) (h .1))
+    go WeightTooLarge h = rw (h .0) (ap (λ (x : Memory). leftOf x (Refused 0 Reasons.WeightTooLarge)) (h .1))
 
 -- ---- the tests of a step that is taken directly
 refuses : (b : Bool) (n : ℕ) (s : Step) → b ≡ false → refused n ≡ unless b n s
@@ -246,33 +230,19 @@ operands-fit n f g o j e =
     let h = all-pass (a && b) (below n f && below n g) (sorted before f && sorted before g) 7 6 16 o e j in
     regroup a b (below n f) (below n g) (sorted before f) (sorted before g) (of-true (h .0)) (of-true (h .1 .0)) (of-true (h .1 .1))
 
-pub polynomial-short : (n : ℕ) (f : List ℕ) → T (isPolynomial n f) → length f ≤ 64
-polynomial-short n f h = leb→le (length f) 64 (B.left (leb (length f) 64) (below n f && sorted before f) h)
-
 pub loaded : (l : List ℕ) (p : Polynomial) → p ≡ polynomialOf l → termsOf p ≡ l
 loaded l p e = rw e (take-at l (replicate (64 - length l) 0) (length l) refl)
 
 module _ (r : Rule) (d : Mode) (f g : List ℕ) (w : ℤ) (m : Memory) where
-  module _ (n : (length (m .terms) ≡ 8192) × ((length (m .weights) ≡ 128) × (length (m .counts) ≡ 128)) → ⊥) where
-    pub other-lengths : leftOf m (Refused 0 Reasons.WrongLength) ≡ directStep r d f g w m
-    unfolding judged
-    other-lengths =
-        let a : Bool = eqb (length (m .terms)) 8192 in
-        let b : Bool = eqb (length (m .weights)) 128 in
-        let c : Bool = eqb (length (m .counts)) 128 in
-        ap (leaves m) (refuses (sized 128 m) 1 _ (is-false (sized 128 m) (λ h. n (
-          eqb→eq (length (m .terms)) 8192 (B.left a (b && c) h),
-          (eqb→eq (length (m .weights)) 128 (B.left b c (B.right a (b && c) h)), eqb→eq (length (m .counts)) 128 (B.right b c (B.right a (b && c) h))),
-        ))))
+  pub other-lengths : ((length (m .terms) ≡ 8192) × (length (m .weights) ≡ 128) × (length (m .counts) ≡ 128) → ⊥) → leftOf m (Refused 0 Reasons.WrongLength) ≡ directStep r d f g w m
+  unfolding judged
+  other-lengths n = ap (leaves m) (refuses (sized 128 m) 1 _ (sized-not m n))
 
   module _ (t : length (m .terms) ≡ 8192) (u : length (m .weights) ≡ 128) (v : length (m .counts) ≡ 128) where
-    all-sized : sized 128 m ≡ true
-    all-sized = rw (eq-eqb (length (m .terms)) 8192 t, eq-eqb (length (m .weights)) 128 u, eq-eqb (length (m .counts)) 128 v)
-
     pub not-formed : wellFormed m ≡ false → leftOf m (Refused 0 Reasons.IllFormed) ≡ directStep r d f g w m
     unfolding judged
-    not-formed e = ap (leaves m) (passes (sized 128 m) 1 _ _ all-sized (refuses (wellFormed m) 2 _ e))
+    not-formed e = ap (leaves m) (passes (sized 128 m) 1 _ _ (sized-is m t u v) (refuses (wellFormed m) 2 _ e))
 
     pub stepped : wellFormed m ≡ true → (o : Objection) → Fitting (m .variables) f g o → leaves m (objected o (step r d f g w (linesOf m))) ≡ directStep r d f g w m
     unfolding judged
-    stepped e o j = ap (leaves m) (passes (sized 128 m) 1 _ _ all-sized (passes (wellFormed m) 2 _ _ e (j (step r d f g w (linesOf m)))))
+    stepped e o j = ap (leaves m) (passes (sized 128 m) 1 _ _ (sized-is m t u v) (passes (wellFormed m) 2 _ _ e (j (step r d f g w (linesOf m)))))

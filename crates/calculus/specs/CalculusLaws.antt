@@ -22,9 +22,9 @@ use Rattle.configuration.specs.Configuration.{Line, line, some, same, total, co
 use Rattle.configuration.specs.Sums.{solve, o, v, _⊞_}
 use Rattle.configuration.specs.ConfigurationLaws.{same-is, total-negated, total-append, cost-all, weight-all, all-ordered, weight-behind, weight-head, all-fit}
 use Rattle.configuration.specs.FormLaws.{polynomial-below, polynomial-is, sum-sign}
-use Rattle.configuration.specs.Memory.{Memory, linesOf, imageOf, sized, formed, wellFormed}
+use Rattle.configuration.specs.Memory.{Memory, linesOf, imageOf, sized, wellFormed}
 use Rattle.configuration.specs.Replacement.{Step, taken, refused, unless, within}
-use Rattle.configuration.specs.MemoryLaws.{every-append, fits-short, there-and-back, image-wellFormed, formed-parts}
+use Rattle.configuration.specs.MemoryLaws.{well-formed, variables-bound, every-append, fits-short, there-and-back, image-wellFormed, formed-parts}
 use Rattle.calculus.specs.Calculus.{premises, conclusions, changes, isPlain, amountFits, covers, there, allShort, step, leaves, judged, directStep}
 use Rattle.calculus.specs.declared.Rule.{Rule}
 use Rattle.calculus.specs.declared.Rule.the-variants.{Sum, Prod}
@@ -291,14 +291,10 @@ module _ (r : Rule) (d : Mode) (f g : List ℕ) (w : ℤ) (m : Memory) (M : List
   direct-fits : T (linesFit (m .variables) M) × (length M ≤ 128) × T (weightsFit M)
   direct-fits =
       let q : Admitted r d f g w m M = direct-passed in
-      let t : T (formed 128 m) = B.left (formed 128 m) (leb (m .variables) 32 && weightsFit (linesOf m)) (of-true (q .whole)) in
-      step-fits r d f g w (m .variables) (linesOf m) M (operands .0) (operands .1) (formed-parts 128 m t .fit) (q .stepped)
+      step-fits r d f g w (m .variables) (linesOf m) M (operands .0) (operands .1) (formed-parts 128 m (well-formed m (of-true (q .whole))) .fit) (q .stepped)
 
   direct-read : linesOf (imageOf 128 (m .variables) M) ≡ M
   direct-read = there-and-back 128 (m .variables) M (fits-short (m .variables) M (direct-fits .0))
-
-pub variables-bound : (m : Memory) → T (wellFormed m) → m .variables ≤ 32
-variables-bound m h = leb→le (m .variables) 32 (B.left (leb (m .variables) 32) (weightsFit (linesOf m)) (B.right (formed 128 m) (leb (m .variables) 32 && weightsFit (linesOf m)) h))
 
 module _ (r : Rule) (d : Mode) (f g : List ℕ) (w : ℤ) (m : Memory) where
   pub direct-keeps : T (wellFormed m) → T (wellFormed (directStep r d f g w m .memory))

@@ -32,6 +32,19 @@ module _ {A : Type 0} (test : A → Bool) (every : List A → Bool)
   pub ends : length l ≤ i → every (drop i l) ≡ every l → true ≡ every l
   ends h inv = sym none ∙ ap every (sym (drop-of-length-le l h)) ∙ inv
 
+-- the same for the first n elements of a list
+module _ {A : Type 0} (test : A → Bool) (every : List A → Bool)
+    (none : every [] ≡ true) (more : (x : A) (l : List A) → every (x ∷ l) ≡ (test x && every l)) (l : List A) (n i : ℕ) (z : A) (k : n ≤ length l)
+    (inv : every (drop i (take n l)) ≡ every (take n l)) where
+  pub first-stops : i < n → test (getD l i z) ≡ false → false ≡ every (take n l)
+  first-stops h e = stops test every none more (take n l) i z (omega (arith, length-take-le n l k)) (ap test (getD-take n l i z h) ∙ e) inv
+
+  pub first-goes-on : i < n → test (getD l i z) ≡ true → every (drop (i + 1) (take n l)) ≡ every (take n l)
+  first-goes-on h e = goes-on test every none more (take n l) i z (omega (arith, length-take-le n l k)) (ap test (getD-take n l i z h) ∙ e) inv
+
+  pub first-ends : n ≤ i → true ≡ every (take n l)
+  first-ends h = ends test every none more (take n l) i z (omega (arith, length-take-le n l k)) inv
+
 module _ {A : Type 0} where
   -- ---- a run s is written over d from a place on
   pub none-pasted : (d s : List A) (at n : ℕ) → n ≡ 0 → d ≡ paste d at s n

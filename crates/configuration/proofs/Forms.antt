@@ -13,13 +13,14 @@ use lib.Signed.{ltZ, leZ}
 use lib.ListN.{length, getD, take, drop, length-drop, drop-of-length-le}
 use lib.Pow.{pow-mono, shl-exact}
 use lib.Seq.{slice, take-add, drop-at, drop-cons, drop-drop, getD-drop, length-take-le, take-all}
-use borrow.Author.Tests.{lt-ltb, le-leb, lt-leb, eq-eqb, ne-eqb, ltb-true, ltb-false}
+use borrow.Author.Tests.{lt-ltb, le-leb, lt-leb, ltb-true, ltb-false}
 use Rattle.run.specs.Boolean.{left, right}
 use Rattle.polynomial.specs.Polynomial.{orderOf}
 use Rattle.polynomial.specs.declared.Ordering.the-variants.{Earlier}
 use Rattle.configuration.specs.Weight.{inRange, allInRange, isZero, isNegative, noneNegative}
 use Rattle.configuration.specs.Configuration.{Line, line, some, byOrder, isPolynomial, lineFits, linesFit, weightsFit, anyNegative}
 use Rattle.configuration.specs.Memory.{Memory, readLines, zeros, zeroWeights, laidOut, sized, formed, wellFormed}
+use Rattle.configuration.specs.FormLaws.{sized-not, sized-is}
 use Rattle.configuration.specs.MemoryLaws.{length-lines, line-at, laid-step, laid-end}
 
 -- ---- the range of a weight
@@ -203,21 +204,15 @@ module _ (n k : ℕ) (ts : List ℕ) (ws : List ℤ) (cs : List ℕ) where
   abbrev memory : Memory
   memory = record { variables = n; lines = k; terms = ts; weights = ws; counts = cs }
 
-  pub other-terms : (length ts ≡ 8192 → ⊥) → false ≡ wellFormed memory
-  other-terms h = rw (ne-eqb (length ts) 8192 h)
-
-  pub other-weights : length ts ≡ 8192 → (length ws ≡ 128 → ⊥) → false ≡ wellFormed memory
-  other-weights et h = rw (eq-eqb (length ts) 8192 et, ne-eqb (length ws) 128 h)
-
-  pub other-counts : length ts ≡ 8192 → length ws ≡ 128 → (length cs ≡ 128 → ⊥) → false ≡ wellFormed memory
-  other-counts et ew h = rw (eq-eqb (length ts) 8192 et, eq-eqb (length ws) 128 ew, ne-eqb (length cs) 128 h)
+  pub other-lengths : ((length ts ≡ 8192) × (length ws ≡ 128) × (length cs ≡ 128) → ⊥) → false ≡ wellFormed memory
+  other-lengths h = rw (sized-not memory h)
 
   pub too-many-variables : 32 < n → false ≡ wellFormed memory
   too-many-variables h = sym (and-false (formed 128 memory) _ (rw (lt-leb n 32 h)))
 
   module _ (et : length ts ≡ 8192) (ew : length ws ≡ 128) (ec : length cs ≡ 128) where
     sizes : sized 128 memory ≡ true
-    sizes = rw (eq-eqb (length ts) 8192 et, eq-eqb (length ws) 128 ew, eq-eqb (length cs) 128 ec)
+    sizes = sized-is memory et ew ec
 
     pub too-many-lines : 128 < k → false ≡ wellFormed memory
     too-many-lines h = rw (sizes, lt-leb k 128 h)

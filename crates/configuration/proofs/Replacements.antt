@@ -1,7 +1,7 @@
 -- The steps of the loops of a replacement, over plain lists and memories.
 use mathlib.Core.Path.{_≡_, refl, sym, ap, ap₂, _∙_, subst}
 use mathlib.Core.Logic.{inl, inr}
-use mathlib.Core.Bool.{Bool, true, false, not, cond, Bool·beq, _&&_}
+use mathlib.Core.Bool.{Bool, true, false, not, cond, Bool·beq}
 use mathlib.Core.List.{List, [], _∷_, _++_, append-nil}
 use Prim.Native.Nat.{ℕ, zero, suc, _+_, _*_, _^_, _≤_, _<_}
 use native.Mathlib.Nat.{le-of-suc-le-suc, not-suc-le-zero}
@@ -17,7 +17,7 @@ use mir.Val.{SFits, toZ, ofZ}
 use denote.Enum.Declared.{tagOf}
 use types.Run.{OneOf}
 use borrow.Author.Tests.{lt-leb, le-leb}
-use Rattle.run.specs.Boolean.{bool-ext, is-true, of-true, left, right}
+use Rattle.run.specs.Boolean.{bool-ext, is-true, of-true, left}
 use Rattle.polynomial.specs.Polynomial.{termsOf}
 use Rattle.configuration.specs.Weight.{limit, isZero, allInRange}
 use Rattle.configuration.specs.Configuration.{Line, line, some, weight, add, addAll, Ordered, Every, isPolynomial, linesFit, weightsFit}
@@ -26,7 +26,7 @@ use Rattle.configuration.specs.Replacement.{taken, unless, changesOf, Sm
 use Rattle.configuration.specs.Sums.{zero-is}
 use Rattle.configuration.specs.ConfigurationLaws.{add-ordered, add-every, fit-ordered, fit-every, fits, all-fit}
 use Rattle.configuration.specs.PlaceLaws.{toNat, grown}
-use Rattle.configuration.specs.MemoryLaws.{Formed, formed-parts, formed-image, image-formed, there-and-back, fits-short, length-lines, line-at}
+use Rattle.configuration.specs.MemoryLaws.{well-formed, weights-bound, Formed, formed-parts, formed-image, image-formed, there-and-back, fits-short, length-lines, line-at}
 use Rattle.configuration.specs.ReplacementLaws.{after-length, mag-add, netted-weight, netted-small, replace-is, chosen-every, two-passes, room-first, room-last, room-length, length-after}
 use Rattle.configuration.specs.declared.Change.{Change}
 use Rattle.configuration.specs.declared.Verdict.{Verdict}
@@ -387,10 +387,10 @@ module _ (C : List Line) (old new : Memory) (t : T (wellFormed old)) (k : length
     (e : new ≡ imageOf 4 (old .variables) (addAll C [])) (A B : List ℤ) (eb : B ≡ weightsBefore (linesOf new) (linesOf old)) (ea : A ≡ weightsAfter (linesOf new) (linesOf old))
     (v : Verdict) (ev : v ≡ verdictOf (leb (old .lines + countHeld A) (128 + countHeld B)) (allInRange A)) where
   pub whole-formed : T (formed 128 old)
-  whole-formed = left (formed 128 old) (leb (old .variables) 32 && weightsFit (linesOf old)) t
+  whole-formed = well-formed old t
 
   whole-fits : T (weightsFit (linesOf old))
-  whole-fits = right (leb (old .variables) 32) (weightsFit (linesOf old)) (right (formed 128 old) (leb (old .variables) 32 && weightsFit (linesOf old)) t)
+  whole-fits = weights-bound old t
 
   whole-ordered : Ordered (linesOf old)
   whole-ordered = table-ordered 128 old whole-formed

@@ -538,6 +538,17 @@ formed-parts c m t =
       fit = right l f (right r (l && f) u);
     }
 
+-- the parts of 'well formed'
+module _ (m : Memory) (h : T (wellFormed m)) where
+  pub well-formed : T (formed 128 m)
+  well-formed = left (formed 128 m) (leb (m .variables) 32 && weightsFit (linesOf m)) h
+
+  pub variables-bound : m .variables ≤ 32
+  variables-bound = leb→le (m .variables) 32 (left (leb (m .variables) 32) (weightsFit (linesOf m)) (right (formed 128 m) (leb (m .variables) 32 && weightsFit (linesOf m)) h))
+
+  pub weights-bound : T (weightsFit (linesOf m))
+  weights-bound = right (leb (m .variables) 32) (weightsFit (linesOf m)) (right (formed 128 m) (leb (m .variables) 32 && weightsFit (linesOf m)) h)
+
 pub formed-image : (c : ℕ) (m : Memory) → T (formed c m) → m ≡ imageOf c (m .variables) (linesOf m)
 formed-image c m t =
     let p : Formed c m = formed-parts c m t in

@@ -1,6 +1,6 @@
 -- What the code of a replacement uses, for lines N folded into a configuration L, both ordered: the number of lines and the range of the weights
 -- afterwards, read off the weights of the polynomials of N before and after; that the two passes of the code, the lines that vanish first, do what
--- one pass does, with room in every step; and that a few small amounts add up to small weights.
+-- one pass does, with room in every step; that a few small amounts add up to small weights; and what a verdict says.
 use mathlib.Core.Path.{_≡_, refl, sym, ap, _∙_}
 use mathlib.Core.Bool.{Bool, true, false, not, cond, Bool·beq, _&&_}
 use mathlib.Core.List.{List, [], _∷_}
@@ -15,8 +15,10 @@ use Rattle.polynomial.specs.Polynomial.{orderOf}
 use Rattle.polynomial.specs.declared.Ordering.the-variants.{Earlier}
 use Rattle.configuration.specs.Weight.{limit, inRange, allInRange, isZero, share}
 use Rattle.configuration.specs.Configuration.{Line, line, some, same, total, weight, add, addAll, Behind, Ordered, Every, weightsFit}
-use Rattle.configuration.specs.Memory.{Memory, linesOf}
-use Rattle.configuration.specs.Replacement.{taken, unless, within, Small, after, replaced, weightsBefore, weightsAfter, countHeld, chosen, Room}
+use Rattle.configuration.specs.Memory.{Memory, linesOf, imageOf}
+use Rattle.configuration.specs.declared.Verdict.{Verdict}
+use Rattle.configuration.specs.declared.Verdict.the-variants.{Done, TooManyLines, WeightTooLarge}
+use Rattle.configuration.specs.Replacement.{Step, refused, Replacement, verdictNumber, replacementOf, taken, unless, within, Small, after, replaced, weightsBefore, weightsAfter, countHeld, chosen, Room}
 use Rattle.configuration.specs.Sums.{zero-is, solve, v, _⊞_}
 use Rattle.configuration.specs.ConfigurationLaws.{same-is, weight-all, add-ordered, all-ordered, weight-behind, weight-head, unique, netted}
 use Rattle.configuration.specs.PlaceLaws.{toNat, grown, weight-other, not-same, lost, gained, length-all, outcomesFit, weights-all}
@@ -276,3 +278,31 @@ pub length-before : (N L : List Line) → length (weightsBefore N L) ≡ length 
 unfolding weightsBefore
 length-before [] L = refl
 length-before (line f w ∷ N) L = ap suc (length-before N L)
+
+-- ---- what each verdict says: of the lines that result, and of the memory that is left
+abbrev pub Says : Memory → Memory → List Line → Step → Verdict → Type 0
+Says m n N x Done = (x ≡ taken N) × (n ≡ imageOf 128 (m .variables) N) × (leb (length N) 128 ≡ true) × (weightsFit N ≡ true)
+Says m n N x TooManyLines = (x ≡ refused 10) × (n ≡ m)
+Says m n N x WeightTooLarge = (x ≡ refused 11) × (n ≡ m)
+
+pub says : (m n : Memory) (N : List Line) (y : Verdict) → replacementOf n y ≡ after m (within N) → Says m n N (within N) y
+unfolding within
+says m n N y = go (leb (length N) 128) (weightsFit N) refl refl y
+  where
+    other : {A : Type 0} (y : Verdict) (a : Replacement) → replacementOf n y ≡ a → (verdictNumber y ≡ a .number → ⊥) → A
+    other y a e k = absurd (k (ap (λ (x : Replacement). x .number) e))
+
+    memory : (y : Verdict) (a : Replacement) → replacementOf n y ≡ a → n ≡ a .memory
+    memory y a e = ap (λ (x : Replacement). x .memory) e
+
+    go : (a b : Bool) → leb (length N) 128 ≡ a → weightsFit N ≡ b → (y : Verdict) → replacementOf n y ≡ after m (unless a 10 (unless b 11 (taken N)))
+        → Says m n N (unless a 10 (unless b 11 (taken N))) y
+    go true true i j Done e = (refl, memory Done _ e, i, j)
+    go true true i j TooManyLines e = other TooManyLines _ e (λ z. omega arith)
+    go true true i j WeightTooLarge e = other WeightTooLarge _ e (λ z. omega arith)
+    go true false i j Done e = other Done _ e (λ z. omega arith)
+    go true false i j TooManyLines e = other TooManyLines _ e (λ z. omega arith)
+    go true false i j WeightTooLarge e = (refl, memory WeightTooLarge _ e)
+    go false b i j Done e = other Done _ e (λ z. omega arith)
+    go false b i j TooManyLines e = (refl, memory TooManyLines _ e)
+    go false b i j WeightTooLarge e = other WeightTooLarge _ e (λ z. omega arith)

@@ -5,20 +5,19 @@ use mathlib.Core.List.{List, [], _∷_}
 use Prim.Native.Nat.{ℕ, _+_, _≤_, _<_}
 use native.Mathlib.Numerals.{add-one}
 use native.Mathlib.Omega.{arith}
-use lib.Dec.{T, leb}
+use lib.Dec.{T}
 use lib.IntN.{ℤ}
-use lib.Signed.{ltZ, leZ, ltZ-yes, leZ-yes, ltZ-no, clashℤ}
+use lib.Signed.{leZ}
 use lib.ListN.{length}
-use Rattle.run.specs.Boolean.{is-true, is-false, of-true}
 use Rattle.refusal.specs.Refusal.{numberOf}
 use Rattle.refusal.specs.declared.Reason.{Reason}
 use Rattle.polynomial.specs.Polynomial.{termsOf}
 use Rattle.polynomial.specs.declared.Polynomial.{Polynomial}
-use Rattle.configuration.specs.Configuration.{some, weight, isPolynomial, weightsFit, anyNegative}
-use Rattle.configuration.specs.Memory.{Memory, memoryOf, linesOf, formed, wellFormed}
-use Rattle.configuration.specs.MemoryLaws.{formed-parts}
+use Rattle.configuration.specs.Configuration.{some, weight, isPolynomial, anyNegative}
+use Rattle.configuration.specs.Memory.{Memory, memoryOf, wellFormed}
+use Rattle.configuration.specs.MemoryLaws.{well-formed, formed-parts}
 use Rattle.configuration.specs.declared.Head.{Head}
-use Rattle.record.specs.Record.{whole, amountIn}
+use Rattle.record.specs.Record.{amountIn}
 use Rattle.record.proofs.Bodies.{amount-cut, amount-whole}
 use Rattle.walk.specs.Walk.{Outcome, turnedDown, stopOf, Walked, after}
 use Rattle.walk.specs.declared.Turn.the-variants.{Accepted, Refused}
@@ -27,21 +26,13 @@ use Rattle.derivation.specs.Derivation.{State, going, claimFits, onTerm,
 use Rattle.derivation.specs.Held.{progressOf, Ready}
 use Rattle.derivation.specs.declared.Progress.{Progress}
 use Rattle.derivation.specs.declared.Step.{Step}
-use Rattle.run.specs.Boolean as B
 use Rattle.record.specs.declared.Amount.the-variants as A
 use Rattle.walk.specs.Walk as W
-
--- ---- the order of whole numbers, as code tests it
-pub lower : (a b : ℤ) → ltZ a b ≡ true → leZ b a ≡ false
-lower a b e = is-false (leZ b a) (λ h. clashℤ (ltZ-yes {a = a} {b = b} (of-true e)) (leZ-yes h))
-
-pub not-lower : (a b : ℤ) → ltZ a b ≡ false → leZ b a ≡ true
-not-lower a b e = is-true (leZ b a) ((ltZ-no {a = a} {b = b} (rw e tt)) .le)
 
 -- every line has its weight
 pub weights-room : (m : Memory) → T (wellFormed m) → m .lines ≤ length (m .weights)
 weights-room m h =
-    let f = formed-parts 128 m (B.left (formed 128 m) (leb (m .variables) 32 && weightsFit (linesOf m)) h) in
+    let f = formed-parts 128 m (well-formed m h) in
     omega (arith, f .room, f .weights-length)
 
 -- ---- what a record leaves, in areas
@@ -83,6 +74,14 @@ module _ (p : Progress) (size : ℕ) (chosen : Bool) (first work : Polynomial) (
     pub accepted-ready : (n : ℕ) → 0 < size → p .records ≤ p .at → T (wellFormed (memoryOf head ts ws cs)) → head .variables ≡ n
         → T (isPolynomial n (termsOf first)) → T (isPolynomial n (termsOf work)) → Ready n (r .progress) ts ws cs
     accepted-ready n h k well v f g = rw e (record { well = well; variables = v; operand = f; polynomial = g; counted = omega arith })
+
+-- what holds for all areas holds for these, and is what the record does
+pub for-these : (n : ℕ) (p : Progress) (r : Step) (x : W.Progress State → Outcome (W.Progress State)) (ts : List ℕ) (ws : List ℤ) (cs : List ℕ) (y : Outcome (W.Progress State))
+    → Ready n p ts ws cs → y ≡ x (progressOf p ts ws cs)
+    → ((ts : List ℕ) (ws : List ℤ) (cs : List ℕ) → Ready n p ts ws cs → left-by ts ws cs r ≡ after (progressOf p ts ws cs) (x (progressOf p ts ws cs)))
+    × ((ts : List ℕ) (ws : List ℤ) (cs : List ℕ) → Ready n p ts ws cs → Ready n (r .progress) ts ws cs)
+    → (left-by ts ws cs r ≡ after (progressOf p ts ws cs) y) × Ready n (r .progress) ts ws cs
+for-these n p r x ts ws cs y ready e f = (f .0 ts ws cs ready ∙ ap (after (progressOf p ts ws cs)) (sym e), f .1 ts ws cs ready)
 
 -- ---- M
 module _ (n : ℕ) (s : List ℕ) (p : Progress) (ts : List ℕ) (ws : List ℤ) (cs : List ℕ) where

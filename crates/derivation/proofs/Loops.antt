@@ -1,22 +1,21 @@
 -- The walk over the records as code goes it: what holds before each turn, and what is told where it ends.
 use mathlib.Core.Path.{_≡_, refl, sym, ap, subst, _∙_}
-use mathlib.Core.Bool.{cond, _&&_}
+use mathlib.Core.Bool.{cond}
 use mathlib.Core.List.{List, []}
 use Prim.Native.Nat.{ℕ, suc, _+_, _-_, _≤_, _<_}
 use native.Mathlib.Numerals.{add-one}
 use native.Mathlib.Omega.{arith}
-use lib.Dec.{T, leb}
+use lib.Dec.{T}
 use lib.IntN.{ℤ}
 use lib.ListN.{length}
 use Rattle.refusal.specs.Refusal.{numberOf}
 use Rattle.refusal.specs.declared.Reason.{Reason}
 use Rattle.polynomial.specs.Polynomial.{termsOf}
-use Rattle.configuration.specs.Configuration.{weightsFit}
 use Rattle.configuration.specs.FormLaws.{none-polynomial}
-use Rattle.configuration.specs.Memory.{Memory, memoryOf, linesOf, imageOf, formed, wellFormed}
-use Rattle.configuration.specs.MemoryLaws.{formed-image}
-use Rattle.walk.specs.Walk.{accepted, nothing, refusedFor, Walked, after, walk}
-use Rattle.walk.specs.WalkLaws.{stops, steps, refuses, after-refused, after-accepted}
+use Rattle.configuration.specs.Memory.{Memory, memoryOf, linesOf, imageOf, wellFormed}
+use Rattle.configuration.specs.MemoryLaws.{well-formed, formed-image}
+use Rattle.walk.specs.Walk.{nothing, refusedFor, Walked, after, walk}
+use Rattle.walk.proofs.Leads.{Leads, begins, ends, inside, next-leads, unmoved, ends-refused}
 use Rattle.walk.specs.declared.Turn.the-variants.{Accepted, Refused}
 use Rattle.derivation.specs.Derivation.{State, onRecord, checking, toldOf, verdict, leftOf, leaves}
 use Rattle.derivation.specs.RefusedLaws.{checking-local}
@@ -25,23 +24,21 @@ use Rattle.derivation.specs.declared.Answer.{Answer}
 use Rattle.derivation.specs.declared.Progress.{Progress}
 use Rattle.derivation.specs.declared.Step.{Step}
 use Rattle.derivation.proofs.Entries.{left-by}
-use Rattle.run.specs.Boolean as B
 use Rattle.walk.specs.Walk as W
 use Rattle.derivation.specs.declared.Answer.the-variants as Answers
 
 -- what is still to be walked gives the whole
 abbrev pub Walks : ℕ → List ℕ → Walked (W.Progress State) → Progress → List ℕ → List ℤ → List ℕ → Type 0
-Walks n s x p ts ws cs = Ready n p ts ws cs × (p .at ≤ length s) × (walk (checking n) (length s - p .records) s (progressOf p ts ws cs) ≡ x)
+Walks n s x p ts ws cs = Ready n p ts ws cs × (p .at ≤ length s) × Leads (checking n) s x (progressOf p ts ws cs)
 
 -- before the first record
 pub starts : (s : List ℕ) (p : Progress) (ts : List ℕ) (ws : List ℤ) (cs : List ℕ) → T (wellFormed (memoryOf (p .head) ts ws cs)) → termsOf (p .first) ≡ [] → termsOf (p .work) ≡ []
     → p .at ≡ 0 → p .records ≡ 0 → Walks (p .head .variables) s (walk (checking (p .head .variables)) (length s) s (progressOf p ts ws cs)) p ts ws cs
 starts s p ts ws cs well f g a r =
-    let n : ℕ = p .head .variables in
-    let e : length s - p .records ≡ length s = omega arith in (
+    let n : ℕ = p .head .variables in (
       record { well = well; variables = refl; operand = rw f (none-polynomial n); polynomial = rw g (none-polynomial n); counted = omega arith },
       omega arith,
-      ap (λ (k : ℕ). walk (checking n) k s (progressOf p ts ws cs)) e,
+      begins (checking n) s _ (progressOf p ts ws cs) r refl,
     )
 
 -- the variables stay those of the start
@@ -53,7 +50,7 @@ held-image : (n : ℕ) (p : Progress) (ts : List ℕ) (ws : List ℤ) (cs : List
     → memoryOf (p .head) ts ws cs ≡ imageOf 128 n (linesOf (memoryOf (p .head) ts ws cs))
 held-image n p ts ws cs ready =
     let m : Memory = memoryOf (p .head) ts ws cs in
-    subst (λ (k : ℕ). m ≡ imageOf 128 k (linesOf m)) (ready .variables) (formed-image 128 m (B.left (formed 128 m) (leb (m .variables) 32 && weightsFit (linesOf m)) (ready .well)))
+    subst (λ (k : ℕ). m ≡ imageOf 128 k (linesOf m)) (ready .variables) (formed-image 128 m (well-formed m (ready .well)))
 
 module _ (n : ℕ) (s : List ℕ) (x : Walked (W.Progress State)) (p : Progress) (ts : List ℕ) (ws : List ℤ) (cs : List ℕ) (inv : Walks n s x p ts ws cs) where
   abbrev begun : W.Progress State
@@ -62,11 +59,8 @@ module _ (n : ℕ) (s : List ℕ) (x : Walked (W.Progress State)) (p : Progress)
   -- one record
   module _ (h : p .at < length s) (r : Step) (ts′ : List ℕ) (ws′ : List ℤ) (cs′ : List ℕ)
       (e : left-by ts′ ws′ cs′ r ≡ after begun (onRecord (p .head .variables) s begun)) (ready : Ready (p .head .variables) (r .progress) ts′ ws′ cs′) where
-    one-more : length s - p .records ≡ suc (length s - suc (p .records))
-    one-more = omega (arith, inv .0 .counted)
-
-    left : walk (checking n) (suc (length s - suc (p .records))) s begun ≡ x
-    left = rw one-more at (inv .2)
+    abbrev next : W.Progress State
+    next = progressOf (r .progress) ts′ ws′ cs′
 
     told : left-by ts′ ws′ cs′ r ≡ after begun (onRecord n s begun)
     told = rw (inv .0 .variables) at e
@@ -75,41 +69,24 @@ module _ (n : ℕ) (s : List ℕ) (x : Walked (W.Progress State)) (p : Progress)
     ready′ = rw (inv .0 .variables) at ready
 
     module _ (k : r .turn ≡ Accepted) where
-      new : onRecord n s begun ≡ accepted (progressOf (r .progress) ts′ ws′ cs′)
-      new = after-accepted begun (progressOf (r .progress) ts′ ws′ cs′) (onRecord n s begun) (rw k at told)
-
-      inside : (p .at < r .progress .at) × (r .progress .at ≤ length s) × (r .progress .records ≡ suc (p .records))
-      inside = checking-local n .inside s begun (progressOf (r .progress) ts′ ws′ cs′) new
+      lies : (p .at < r .progress .at) × (r .progress .at ≤ length s) × (r .progress .records ≡ suc (p .records))
+      lies = inside (checking n) s begun next (checking-local n) (rw k at told)
 
       pub goes-on : Walks n s x (r .progress) ts′ ws′ cs′
-      goes-on = (
-        ready′,
-        inside .1,
-        ap (λ (k : ℕ). walk (checking n) (length s - k) s (progressOf (r .progress) ts′ ws′ cs′)) (inside .2)
-            ∙ (sym (steps (checking n) (length s - suc (p .records)) s begun (progressOf (r .progress) ts′ ws′ cs′) h new) ∙ left),
-      )
+      goes-on = (ready′, lies .1, next-leads (checking n) s begun next (checking-local n) (rw k at told) x (inv .0 .counted) h (inv .2))
 
       pub fewer : length s - r .progress .records < length s - p .records
-      fewer = omega (arith, inside .2, inv .0 .counted)
+      fewer = omega (arith, lies .2, inv .0 .counted)
 
-    pub refused-count : (reason : Reason) → r .turn ≡ Refused reason → r .progress .records < length s
-    refused-count reason k =
-        let d = after-refused begun (progressOf (r .progress) ts′ ws′ cs′) (numberOf reason) (onRecord n s begun) (rw k at told) in
-        omega (arith, ap (λ (b : W.Progress State). b .records) (d .1), inv .0 .counted)
+    module _ (reason : Reason) (k : r .turn ≡ Refused reason) where
+      pub refused-count : r .progress .records < length s
+      refused-count = omega (arith, ap (λ (b : W.Progress State). b .records) (unmoved (checking n) s begun next (numberOf reason) (rw k at told)), inv .0 .counted)
 
-    pub refused-there : (reason : Reason) → r .turn ≡ Refused reason
-        → leftOf (memoryOf (r .progress .head) ts′ ws′ cs′) (Answers.Refused (r .progress .records + 1) reason) ≡ leaves n x
-    refused-there reason k =
-        let q : W.Progress State = progressOf (r .progress) ts′ ws′ cs′ in
-        let d = after-refused begun q (numberOf reason) (onRecord n s begun) (rw k at told) in
-        let w : _≡_ {A = Walked (W.Progress State)} (record { reached = q; stop = refusedFor (numberOf reason) }) x =
-        ap (λ (b : W.Progress State). record { reached = b; stop = refusedFor (numberOf reason) }) (d .1)
-        ∙ sym (refuses (checking n) (length s - suc (p .records)) s begun (numberOf reason) h (d .0)) ∙ left in
-        ap (λ (m : Memory). leftOf m (Answers.Refused (r .progress .records + 1) reason)) (held-image n (r .progress) ts′ ws′ cs′ ready′)
-        ∙ rw (add-one (r .progress .records)) (ap (leaves n) w)
+      pub refused-there : leftOf (memoryOf (r .progress .head) ts′ ws′ cs′) (Answers.Refused (r .progress .records + 1) reason) ≡ leaves n x
+      refused-there =
+          ap (λ (m : Memory). leftOf m (Answers.Refused (r .progress .records + 1) reason)) (held-image n (r .progress) ts′ ws′ cs′ ready′)
+          ∙ rw (add-one (r .progress .records)) (ap (leaves n) (ends-refused (checking n) s begun next (numberOf reason) (rw k at told) x (inv .0 .counted) h (inv .2)))
 
   -- the end of the bytes
-  pub ends : length s ≤ p .at → (a : Answer) → toldOf a ≡ verdict begun (cond (p .closed) nothing (refusedFor 15)) → leftOf (memoryOf (p .head) ts ws cs) a ≡ leaves n x
-  ends h a e =
-      ap (λ (m : Memory). leftOf m a) (held-image n p ts ws cs (inv .0))
-      ∙ rw e (ap (leaves n) (sym (stops (checking n) (length s - p .records) s begun h) ∙ inv .2))
+  pub ends-there : length s ≤ p .at → (a : Answer) → toldOf a ≡ verdict begun (cond (p .closed) nothing (refusedFor 15)) → leftOf (memoryOf (p .head) ts ws cs) a ≡ leaves n x
+  ends-there h a e = ap (λ (m : Memory). leftOf m a) (held-image n p ts ws cs (inv .0)) ∙ rw e (ap (leaves n) (ends (checking n) s x begun h (inv .2)))

@@ -1,22 +1,22 @@
 -- What a step leaves of a check: the lines that were there, where it is refused, or those of the taken step, which are well formed again.
 use mathlib.Core.Path.{_≡_, refl, sym, ap, subst, _∙_}
-use mathlib.Core.Bool.{Bool, true, false, _&&_, true≢false}
+use mathlib.Core.Bool.{Bool, true, false, true≢false}
 use mathlib.Core.List.{List, []}
 use Prim.Native.Nat.{ℕ, _+_, _≤_}
 use native.Mathlib.Numerals.{add-one}
 use native.Mathlib.Omega.{arith}
-use lib.Dec.{T, leb}
+use lib.Dec.{T}
 use lib.IntN.{ℤ}
 use lib.ListN.{length}
 use Rattle.refusal.specs.Refusal.{numberOf}
 use Rattle.refusal.specs.declared.Reason.{Reason}
 use Rattle.polynomial.specs.Polynomial.{termsOf, polynomialOf}
 use Rattle.configuration.specs.Configuration.{Line, linesFit, weightsFit}
-use Rattle.configuration.specs.Memory.{Memory, memoryOf, linesOf, linesIn, imageOf, formed, wellFormed}
-use Rattle.configuration.specs.MemoryLaws.{there-and-back, image-wellFormed, fits-short, formed-parts}
+use Rattle.configuration.specs.Memory.{Memory, memoryOf, linesOf, linesIn, imageOf, wellFormed}
+use Rattle.configuration.specs.MemoryLaws.{well-formed, variables-bound, there-and-back, image-wellFormed, fits-short, formed-parts}
 use Rattle.configuration.specs.declared.Head.{Head}
 use Rattle.calculus.specs.Calculus.{Told, done, refusedAt, Left, leftOf, leaves}
-use Rattle.calculus.specs.CalculusLaws.{step-fits, variables-bound}
+use Rattle.calculus.specs.CalculusLaws.{step-fits}
 use Rattle.calculus.specs.declared.Rule.{Rule}
 use Rattle.record.specs.Record.{amountIn}
 use Rattle.record.proofs.Bodies.{amount-cut, amount-whole}
@@ -27,7 +27,6 @@ use Rattle.derivation.specs.declared.Step.{Step}
 use Rattle.walk.specs.declared.Turn.the-variants.{Accepted, Refused}
 use Rattle.configuration.specs.FormLaws.{none-polynomial}
 use Rattle.derivation.proofs.Entries.{left-by, refused-step, refused-ready, passed, accepted-step, accepted-ready}
-use Rattle.run.specs.Boolean as B
 use Rattle.configuration.specs.Replacement as R
 use Rattle.calculus.specs.Calculus as C
 use Rattle.calculus.specs.declared.Answer.the-variants as Answers
@@ -102,9 +101,8 @@ module _ (s : List ℕ) (p : Progress) (ts : List ℕ) (ws : List ℤ) (cs : Lis
 
           fits : T (linesFit (p .head .variables) (took .lines)) × (length (took .lines) ≤ 128) × T (weightsFit (took .lines))
           fits =
-              let v : T (formed 128 old) = B.left (formed 128 old) (leb (p .head .variables) 32 && weightsFit (linesOf old)) (ready .well) in
               step-fits r (p .mode) (termsOf (p .first)) (termsOf (p .work)) w (p .head .variables) (linesOf old) (took .lines) (rw (ready .variables) (ready .operand))
-              (rw (ready .variables) (ready .polynomial)) (formed-parts 128 old v .fit) (took .is)
+              (rw (ready .variables) (ready .polynomial)) (formed-parts 128 old (well-formed old (ready .well)) .fit) (took .is)
 
           new-lines : linesIn h ts′ ws′ cs′ ≡ took .lines
           new-lines = ap linesOf (took .image) ∙ there-and-back 128 (p .head .variables) (took .lines) (fits-short (p .head .variables) (took .lines) (fits .0))

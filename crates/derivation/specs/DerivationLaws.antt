@@ -5,7 +5,7 @@ use mathlib.Core.Bool.{Bool, true, false, cond, not, _&&_}
 use mathlib.Core.List.{List, [], _∷_}
 use Prim.Native.Nat.{ℕ, zero, suc, _+_, _≤_, _<_}
 use native.Mathlib.Omega.{arith}
-use lib.Dec.{T, leb, leb→le, le→leb, eqb, eqb→eq}
+use lib.Dec.{T, leb→le, le→leb, eqb, eqb→eq}
 use lib.IntN.{ℤ, pos, negsuc}
 use lib.Signed.{_≤ℤ_, leZ, leZ-yes}
 use lib.ListN.{length, getD}
@@ -13,11 +13,11 @@ use Rattle.run.specs.Boolean.{is-true}
 use Rattle.configuration.specs.Configuration.{Line, some, cost, weight, isPolynomial, linesFit, weightsFit, anyNegative}
 use Rattle.configuration.specs.ConfigurationLaws.{bound}
 use Rattle.configuration.specs.FormLaws.{none-polynomial}
-use Rattle.configuration.specs.Memory.{Memory, linesOf, sized, formed, wellFormed}
-use Rattle.configuration.specs.MemoryLaws.{length-lines, fits-short, there-and-back, image-wellFormed, Formed, formed-parts}
+use Rattle.configuration.specs.Memory.{Memory, linesOf, sized, wellFormed}
+use Rattle.configuration.specs.MemoryLaws.{well-formed, variables-bound, weights-bound, length-lines, fits-short, there-and-back, image-wellFormed, Formed, formed-parts}
 use Rattle.configuration.specs.Replacement.{Step, taken, refused}
 use Rattle.calculus.specs.Calculus.{step}
-use Rattle.calculus.specs.CalculusLaws.{step-taken, stepped-cost, step-fits, not-true, variables-bound}
+use Rattle.calculus.specs.CalculusLaws.{step-taken, stepped-cost, step-fits, not-true}
 use Rattle.calculus.specs.declared.Rule.{Rule}
 use Rattle.calculus.specs.declared.Rule.the-variants.{Sum, Prod}
 use Rattle.calculus.specs.declared.Mode.{Mode}
@@ -146,13 +146,13 @@ sound-record n s p q e o =
 
 pub sound-fresh : (m : Memory) → T (wellFormed m) → Sound (m .variables) (fresh (linesOf m))
 sound-fresh m h =
-    let f : Formed 128 m = formed-parts 128 m (B.left (formed 128 m) (leb (m .variables) 32 && weightsFit (linesOf m)) h) in
+    let f : Formed 128 m = formed-parts 128 m (well-formed m h) in
     record {
       operand = none-polynomial (m .variables);
       polynomial = none-polynomial (m .variables);
       fit = f .fit;
       room = omega (arith, f .room, length-lines (m .lines) (m .terms) (m .weights) (m .counts));
-      weights = B.right (leb (m .variables) 32) (weightsFit (linesOf m)) (B.right (formed 128 m) (leb (m .variables) 32 && weightsFit (linesOf m)) h);
+      weights = weights-bound m h;
       claimed = λ c. absurd c;
     }
 
@@ -202,7 +202,7 @@ pub check-is : (s : List ℕ) (m : Memory) → T (wellFormed m) → checkDerivat
 unfolding checkDerivation
 check-is s m h =
     lent-passed (sized 128 m) 1 m (lentUnless (wellFormed m) 2 m (checked s m))
-    (B.left (sized 128 m) _ (B.left (formed 128 m) (leb (m .variables) 32 && weightsFit (linesOf m)) h))
+    (B.left (sized 128 m) _ (well-formed m h))
     ∙ lent-passed (wellFormed m) 2 m (checked s m) h
 
 module _ (s : List ℕ) (m : Memory) (h : T (wellFormed m)) where

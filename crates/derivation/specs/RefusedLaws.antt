@@ -24,16 +24,13 @@ use Rattle.record.specs.RecordLaws.{number-take, whole-take}
 use Rattle.walk.specs.Walk.{Outcome, accepted, turnedDown, unless, mapped, Progress, begun, past, Stop, nothing, refusedFor, over, walk}
 use Rattle.walk.specs.Work.{termAdded}
 use Rattle.walk.specs.WalkLaws.{unless-ind, mapped-ind, Kept, Ends, same-outcome, Refusal, acceptedBytes, Local, refused-record, turns-records, records-prefix}
-use Rattle.walk.specs.WorkLaws.{term-ind, term-take}
+use Rattle.walk.specs.WorkLaws.{term-inside, term-take}
 use Rattle.derivation.specs.Derivation.{State, fresh, going, having, closes, onMode, onTerm, onChoice, stepped, onStep, claimFits, onClaim, onRecord, checking, confirmed, refusedAt, verdict, Left, leaves, checkDerivation}
 use Rattle.derivation.specs.DerivationLaws.{record-ind, walked, check-refused-1, check-refused-2, check-is}
 use Rattle.derivation.specs.CostRule.{cost-rule}
 use Rattle.derivation.specs.CostRule as R
 
 -- ---- an accepted record takes bytes that are there, and counts as one
-term-inside : (n : ℕ) (s : List ℕ) (at : ℕ) (f g : List ℕ) → termAdded n s at f ≡ accepted g → at + 4 ≤ length s
-term-inside n s at f g e = rw e at (term-ind n s at f (Kept (λ g. at + 4 ≤ length s)) (λ k. tt) (λ i j k. leb→le (at + 4) (length s) i))
-
 record-inside : (n : ℕ) (s : List ℕ) (p q : Progress State) → onRecord n s p ≡ accepted q → (p .at < q .at) × (q .at ≤ length s) × (q .records ≡ suc (p .records))
 record-inside n s p q e = rw e at (record-ind n s p (Kept (λ q. (p .at < q .at) × (q .at ≤ length s) × (q .records ≡ suc (p .records))))
     (λ k. tt)

@@ -1,13 +1,14 @@
 -- The answers of writing a line, test by test.
 use mathlib.Core.Path.{_≡_, ap, ap₂, _∙_}
-use mathlib.Core.Bool.{Bool, true, false, _&&_}
+use mathlib.Core.Bool.{Bool, true, false}
 use mathlib.Core.List.{List, _++_}
 use Prim.Native.Nat.{ℕ, _+_, _≤_, _<_}
 use native.Mathlib.Nat.{zero-add}
-use lib.Dec.{leb, eqb, eqb→eq}
+use lib.Dec.{leb}
 use lib.ListN.{length, take, drop}
-use borrow.Author.Tests.{eq-eqb, le-leb, lt-leb}
-use Rattle.run.specs.Boolean.{is-false, left, right}
+use borrow.Author.Tests.{le-leb, lt-leb}
+use Rattle.run.specs.Boolean.{left}
+use Rattle.configuration.specs.FormLaws.{sized-not, sized-is}
 use Rattle.configuration.specs.Memory.{Memory, linesOf, sized, wellFormed}
 use Rattle.listing.specs.Listing.{textOf, Told, written, refusedAt, Left, unless, writeLine}
 use Rattle.listing.specs.Writing.{overwritten}
@@ -25,19 +26,11 @@ answered area told = record { area = area; told = told }
 module _ (number : ℕ) (m : Memory) (area : List ℕ) where
   pub other-lengths : ((length (m .terms) ≡ 8192) × (length (m .weights) ≡ 128) × (length (m .counts) ≡ 128) → ⊥) → answered area (refusedAt 0 1) ≡ writeLine number m area
   unfolding writeLine
-  other-lengths n =
-      let a : Bool = eqb (length (m .terms)) 8192 in
-      let b : Bool = eqb (length (m .weights)) 128 in
-      let c : Bool = eqb (length (m .counts)) 128 in
-      refuses (sized 128 m) 1 area _ (is-false (sized 128 m) (λ h. n (
-        eqb→eq (length (m .terms)) 8192 (left a (b && c) h),
-        eqb→eq (length (m .weights)) 128 (left b c (right a (b && c) h)),
-        eqb→eq (length (m .counts)) 128 (right b c (right a (b && c) h)),
-      )))
+  other-lengths n = refuses (sized 128 m) 1 area _ (sized-not m n)
 
   module _ (x : length (m .terms) ≡ 8192) (y : length (m .weights) ≡ 128) (z : length (m .counts) ≡ 128) where
     all-sized : sized 128 m ≡ true
-    all-sized = rw (eq-eqb (length (m .terms)) 8192 x, eq-eqb (length (m .weights)) 128 y, eq-eqb (length (m .counts)) 128 z)
+    all-sized = sized-is m x y z
 
     pub not-formed : wellFormed m ≡ false → answered area (refusedAt 0 2) ≡ writeLine number m area
     unfolding writeLine

@@ -1,16 +1,15 @@
 -- The code of a listing turn by turn: the texts that are left, added to the code that is there.
 use mathlib.Core.Path.{_≡_, ap, ap₂, _∙_}
-use mathlib.Core.Bool.{_&&_}
 use mathlib.Core.List.{List}
 use Prim.Native.Nat.{ℕ, suc, _+_, _-_, _≤_, _<_}
 use native.Mathlib.Numerals.{add-one}
 use native.Mathlib.Omega.{arith}
-use lib.Dec.{T, leb}
+use lib.Dec.{T}
 use lib.ListN.{length, take}
 use Rattle.fnv.specs.Fnv.{basis, addBytes}
-use Rattle.run.specs.Boolean.{left}
-use Rattle.configuration.specs.Configuration.{Line, weightsFit}
-use Rattle.configuration.specs.Memory.{Memory, linesOf, formed, wellFormed}
+use Rattle.configuration.specs.Configuration.{Line}
+use Rattle.configuration.specs.Memory.{Memory, linesOf, wellFormed}
+use Rattle.configuration.specs.MemoryLaws.{well-formed}
 use Rattle.configuration.proofs.Replacements.{table-length}
 use Rattle.listing.specs.Listing.{textOf}
 use Rattle.listing.specs.Code.{codeOf, codesFrom, code-of-lines}
@@ -21,7 +20,7 @@ pub all-left : (m : Memory) (code : ℕ) → T (wellFormed m) → code ≡ basis
     → codesFrom (suc (m .lines) - 0) 0 code (m .variables) (linesOf m) ≡ codeOf (m .variables) (linesOf m)
 all-left m code t e =
     let l : suc (m .lines) - 0 ≡ suc (length (linesOf m)) =
-    omega (arith, table-length 128 m (left (formed 128 m) (leb (m .variables) 32 && weightsFit (linesOf m)) t)) in
+    omega (arith, table-length 128 m (well-formed m t)) in
     rw (l, e) (code-of-lines (m .variables) (linesOf m))
 
 -- the text of the next number is added from the front of the bytes that it was written to

@@ -1,18 +1,15 @@
 -- The line of a number in a well-formed configuration: where it is kept, and that it is what the listing has under that number.
 use mathlib.Core.Path.{_≡_, refl, ap, _∙_}
-use mathlib.Core.Bool.{_&&_}
 use mathlib.Core.List.{List}
 use Prim.Native.Nat.{ℕ, zero, suc, _+_, _-_, _*_, _≤_, _<_}
 use native.Mathlib.Omega.{arith}
-use lib.Dec.{T, leb, leb→le}
+use lib.Dec.{T}
 use lib.IntN.{pos}
 use lib.ListN.{length, getD}
-use Rattle.run.specs.Boolean.{left}
-use Rattle.run.specs.Run.{sorted}
-use Rattle.term.specs.Term.{before}
-use Rattle.configuration.specs.Configuration.{Line, line, below, weightsFit}
+use Rattle.configuration.specs.Configuration.{Line, line}
 use Rattle.configuration.specs.Memory.{Memory, linesOf, formed, wellFormed}
-use Rattle.configuration.specs.MemoryLaws.{Formed, formed-parts}
+use Rattle.configuration.specs.FormLaws.{polynomial-short}
+use Rattle.configuration.specs.MemoryLaws.{well-formed, Formed, formed-parts}
 use Rattle.configuration.proofs.Forms.{rowAt}
 use Rattle.configuration.proofs.Replacements.{none, table-length, row-fits, line-here, row-polynomial}
 use Rattle.listing.specs.Listing.{headerText, lineText, textOf}
@@ -33,7 +30,7 @@ text-at (suc k) n L h = let e : suc k - 1 ≡ k = omega arith in rw e
 
 module _ (m : Memory) (k : ℕ) (t : T (wellFormed m)) where
   whole : T (formed 128 m)
-  whole = left (formed 128 m) (leb (m .variables) 32 && weightsFit (linesOf m)) t
+  whole = well-formed m t
 
   -- the number 0 has the header
   pub header-there : k ≡ 0 → textOf k (m .variables) (linesOf m) ≡ headerText (m .variables) (m .lines)
@@ -50,7 +47,7 @@ module _ (m : Memory) (k : ℕ) (t : T (wellFormed m)) where
         in-terms = row-fits 128 m whole i b;
         in-weights = omega (arith, p .weights-length, p .room);
         in-counts = omega (arith, p .counts-length, p .room);
-        few = leb→le (length f) 64 (left (leb (length f) 64) (below (m .variables) f && sorted before f) (row-polynomial 128 m whole i b));
+        few = polynomial-short (m .variables) f (row-polynomial 128 m whole i b);
         text = text-at k (m .variables) (linesOf m) n ∙ ap lineText (line-here 128 m whole i b);
       }
 

@@ -1,17 +1,16 @@
 -- Laws of the listing: how long its texts are, that the texts of its numbers one after the other are the whole, and document 01's case.
 use mathlib.Core.Path.{_≡_, refl, ap, ap₂}
-use mathlib.Core.Bool.{_&&_}
 use mathlib.Core.List.{List, [], _∷_, _++_, map}
 use Prim.Native.Nat.{ℕ, zero, suc, _+_, _*_, _/_, _%_, _^_, _≤_, _<_}
 use native.Mathlib.Omega.{arith}
-use lib.Dec.{T, leb, ltb, eqb, nltb→le}
+use lib.Dec.{T, ltb, eqb, nltb→le}
 use lib.IntN.{ℤ, pos, negsuc}
 use lib.ListN.{length, getD, drop, length-append, length-map, drop-of-length-le}
 use lib.Seq.{drop-cons}
-use Rattle.run.specs.Boolean.{left, cond-ind}
-use Rattle.configuration.specs.Configuration.{Line, line, weightsFit}
-use Rattle.configuration.specs.Memory.{Memory, linesOf, formed, wellFormed}
-use Rattle.configuration.specs.MemoryLaws.{Short, Formed, formed-parts, fits-short}
+use Rattle.run.specs.Boolean.{cond-ind}
+use Rattle.configuration.specs.Configuration.{Line, line}
+use Rattle.configuration.specs.Memory.{Memory, linesOf, wellFormed}
+use Rattle.configuration.specs.MemoryLaws.{well-formed, Short, formed-parts, fits-short}
 use Rattle.listing.specs.Listing.{decimalIn, decimal, weightText, joined, namesFrom, termText, lineText, headerText, textOf, textsFrom, lineTexts, listingOf, listed}
 
 -- ---- numbers: never more than 20 digits, and at most k + 1 below 10^(k + 1)
@@ -99,8 +98,7 @@ pub text-short : (i : ℕ) (m : Memory) → T (wellFormed m) → length (textOf 
 unfolding textOf
 text-short zero m h = header-short (m .variables) (length (linesOf m))
 text-short (suc i) m h =
-    let whole : Formed 128 m = formed-parts 128 m (left (formed 128 m) (leb (m .variables) 32 && weightsFit (linesOf m)) h) in
-    lines-short i (linesOf m) (fits-short (m .variables) (linesOf m) (whole .fit))
+    lines-short i (linesOf m) (fits-short (m .variables) (linesOf m) (formed-parts 128 m (well-formed m h) .fit))
 
 -- ---- the whole
 -- the texts of k numbers from i + 1 on are those of the lines from i on, where k is how many there are

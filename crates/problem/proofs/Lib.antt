@@ -1,4 +1,3 @@
-pub mod Bodies
 pub mod Folds
 pub mod Next
 pub mod Records

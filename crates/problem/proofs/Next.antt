@@ -9,7 +9,7 @@ use lib.IntN.{ℤ}
 use Rattle.run.specs.Boolean.{of-true}
 use Rattle.polynomial.specs.Polynomial.{termsOf}
 use Rattle.polynomial.specs.declared.Polynomial.{Polynomial}
-use Rattle.configuration.specs.Configuration.{linesFit, weightsFit}
+use Rattle.configuration.specs.Configuration.{isPolynomial, linesFit, weightsFit}
 use Rattle.configuration.specs.FormLaws.{none-polynomial}
 use Rattle.configuration.specs.Memory.{Memory, memoryOf, readLines, imageOf, wellFormed}
 use Rattle.configuration.specs.MemoryLaws.{image-wellFormed}
@@ -17,8 +17,6 @@ use Rattle.configuration.specs.declared.Head.{Head}
 use Rattle.refusal.specs.Refusal.{numberOf}
 use Rattle.refusal.specs.declared.Reason.{Reason}
 use Rattle.walk.specs.Walk.{Outcome, accepted, turnedDown, past, nothing, stopOf, Walked, after}
-use Rattle.walk.specs.Work.{termAdded}
-use Rattle.walk.specs.WorkLaws.{term-polynomial}
 use Rattle.walk.specs.declared.Turn.the-variants.{Accepted, Refused}
 use Rattle.problem.specs.Problem.{State, having}
 use Rattle.problem.specs.Held.{progressOf, Ready}
@@ -63,14 +61,14 @@ module _ (ts : List ℕ) (ws : List ℤ) (cs : List ℕ) where
           )
 
       -- M: the lines stay, and the sum is a polynomial again
-      pub summed : (s : List ℕ) (at : ℕ) → accepted (termsOf work) ≡ termAdded (p .head .variables) s at (termsOf (p .work)) → h ≡ p .head → 0 < size → (x : Outcome (W.Progress State))
+      pub summed : T (isPolynomial (p .head .variables) (termsOf work)) → h ≡ p .head → 0 < size → (x : Outcome (W.Progress State))
           → (let q = progressOf p ts ws cs in accepted (past q size (having (termsOf work) (q .state .lines) (q .state))) ≡ x)
           → (left-by r ≡ after (progressOf p ts ws cs) x) × ready-by r
-      summed s at a d z x k = (
+      summed g d z x k = (
         ap left-by e ∙ rw (one-more, d) (ap (after (progressOf p ts ws cs)) k),
         subst ready-by (sym e) (record {
           well = rw d (ready .well);
-          polynomial = rw d (term-polynomial (p .head .variables) s at (termsOf (p .work)) (termsOf work) (ready .polynomial) (sym a));
+          polynomial = rw d g;
           fresh = λ n. absurd n;
           counted = let c = ready .counted in omega arith;
         }),

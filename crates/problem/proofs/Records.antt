@@ -1,26 +1,25 @@
 -- What each record does, by the tests that it fails or passes in their order, as code has found them.
 use mathlib.Core.Path.{_≡_, refl, sym, ap, ap₂, _∙_}
 use mathlib.Core.Bool.{Bool, true, false, cond, not, _&&_}
-use mathlib.Core.List.{List, [], _∷_}
-use Prim.Native.Nat.{ℕ, zero, suc, min, _+_, _-_, _^_, _≤_, _<_}
+use mathlib.Core.List.{List, []}
+use Prim.Native.Nat.{ℕ, suc, min, _+_, _-_, _^_, _≤_, _<_}
 use native.Mathlib.Omega.{arith}
-use lib.Dec.{leb, ltb}
+use lib.Dec.{leb, ltb, eqb}
 use lib.IntN.{ℤ}
-use lib.ListN.{length, getD, take, replicate}
+use lib.ListN.{length, getD, replicate}
 use lib.Seq.{take-at}
-use borrow.Author.Tests.{lt-leb, le-leb, ne-eqb}
-use Rattle.run.specs.Boolean.{of-true}
-use Rattle.polynomial.specs.Polynomial.{clauseOf, termsOf, polynomialOf, outcomeOf}
+use borrow.Author.Tests.{lt-leb, le-leb, eq-eqb, ne-eqb, not-true, not-false}
+use Rattle.polynomial.specs.Polynomial.{clauseOf, termsOf, outcomeOf}
 use Rattle.polynomial.specs.declared.Outcome.{Outcome as Made}
 use Rattle.polynomial.specs.declared.Polynomial.{Polynomial}
-use Rattle.polynomial.proofs.Keys.{take-held}
 use Rattle.configuration.specs.Configuration.{some, add}
 use Rattle.configuration.specs.Replacement.{within}
 use Rattle.record.specs.Record.{whole, numberAt, signedAt, byteIn, amountIn, clauseIn}
-use Rattle.walk.specs.Walk.{Outcome, accepted, turnedDown, unless, mapped, Progress, past, Stop, nothing, refusedFor, Walked, after}
+use Rattle.walk.specs.Walk.{Outcome, accepted, turnedDown, unless, mapped, Progress, past, nothing, refusedFor}
 use Rattle.walk.specs.Work.{termAdded}
+use Rattle.walk.proofs.Adds.{held-none}
 use Rattle.problem.specs.Problem.{State, having, weightFits, folded, onVariables, onTerm, onWeight, onClause, onRecord, Told, filed, refusedAt, verdict}
-use Rattle.problem.proofs.Bodies.{byte-cut, byte-whole, amount-cut, amount-whole, clause-cut, clause-whole}
+use Rattle.record.proofs.Bodies.{byte-cut, byte-whole, amount-cut, amount-whole, clause-cut, clause-whole}
 use Rattle.record.specs.declared.Byte.the-variants as B
 use Rattle.record.specs.declared.Amount.the-variants as A
 use Rattle.record.specs.declared.Clause.the-variants as C
@@ -67,24 +66,7 @@ module _ (s : List ℕ) (q : Progress State) (e : q .state .started ≡ false) w
         (passes (leb (numberAt 1 s (q .at + 1)) 32) 5 _ _ (le-leb (numberAt 1 s (q .at + 1)) 32 (rw (read .1) l))
         (ap (λ (n : ℕ). accepted (past q 2 (record { started = true; variables = n; work = []; lines = [] }))) (sym (read .1)))))
 
--- ---- M: what the sum's answer says of the term
-abbrev pub is-done : Stop → Bool
-is-done nothing = true
-is-done (refusedFor n) = false
-
-abbrev pub number : Stop → ℕ
-number nothing = 0
-number (refusedFor n) = n
-
-module _ (work r : Polynomial) where
-  pub term-refused : (x : Outcome (List ℕ)) (n : ℕ) → _≡_ {A = Walked Polynomial} (record { reached = r; stop = refusedFor n }) (after work (mapped polynomialOf x)) → turnedDown n ≡ x
-  term-refused (accepted g) n e = absurd (of-true (ap (λ (w : Walked Polynomial). is-done (w .stop)) e))
-  term-refused (turnedDown m) n e = ap turnedDown (ap (λ (w : Walked Polynomial). number (w .stop)) e)
-
-  pub term-taken : (x : Outcome (List ℕ)) → _≡_ {A = Walked Polynomial} (record { reached = r; stop = nothing }) (after work (mapped polynomialOf x)) → accepted (termsOf r) ≡ x
-  term-taken (accepted g) e = ap accepted (ap (λ (w : Walked Polynomial). termsOf (w .reached)) e ∙ take-at g (replicate (64 - length g) 0) (length g) refl)
-  term-taken (turnedDown m) e = absurd (of-true (sym (ap (λ (w : Walked Polynomial). is-done (w .stop)) e)))
-
+-- ---- M
 module _ (s : List ℕ) (q : Progress State) (e : q .state .started ≡ true) where
   abbrev sum : Outcome (List ℕ)
   sum = termAdded (q .state .variables) s (q .at + 1) (q .state .work)
@@ -92,11 +74,11 @@ module _ (s : List ℕ) (q : Progress State) (e : q .state .started ≡ true) wh
   abbrev with-work : List ℕ → Progress State
   with-work f = past q 5 (having f (q .state .lines) (q .state))
 
-  pub term-not : (n : ℕ) → turnedDown n ≡ sum → turnedDown n ≡ onTerm s q
-  term-not n k = passes (q .state .started) 4 _ _ e (ap (mapped with-work) k)
+  pub term-not : (n : ℕ) → sum ≡ turnedDown n → turnedDown n ≡ onTerm s q
+  term-not n k = passes (q .state .started) 4 _ _ e (ap (mapped with-work) (sym k))
 
-  pub term-kept : (g : List ℕ) → accepted g ≡ sum → accepted (with-work g) ≡ onTerm s q
-  term-kept g k = passes (q .state .started) 4 _ _ e (ap (mapped with-work) k)
+  pub term-kept : (g : List ℕ) → sum ≡ accepted g → accepted (with-work g) ≡ onTerm s q
+  term-kept g k = passes (q .state .started) 4 _ _ e (ap (mapped with-work) (sym k))
 
   -- ---- W
   pub weight-cut : amountIn s (q .at + 1) ≡ A.Cut → turnedDown 3 ≡ onWeight s q
@@ -197,17 +179,15 @@ module _ (s : List ℕ) (q : Progress State) where
   no-kind a b c d = rw (ne-eqb kind 86 a, ne-eqb kind 77 b, ne-eqb kind 87 c, ne-eqb kind 67 d)
 
 -- ---- the end
-taken-some : (k : ℕ) (f : List ℕ) → length f ≡ 64 → (k ≡ 0 → ⊥) → some (take k f) ≡ true
-taken-some zero f l n = absurd (n refl)
-taken-some (suc k) [] l n = let x : ⊥ = omega arith in absurd x
-taken-some (suc k) (t ∷ f) l n = refl
-
 module _ (work : Polynomial) (k : ℕ) (m : k ≡ min (work .count) 64) (l : length (work .terms) ≡ 64) where
+  is-none : not (some (termsOf work)) ≡ eqb k 0
+  is-none = sym (held-none (work .count) (work .terms) l) ∙ ap (λ (j : ℕ). eqb j 0) (sym m)
+
   pub work-some : (k ≡ 0 → ⊥) → some (termsOf work) ≡ true
-  work-some n = ap some (sym (take-held (work .count) k (work .terms) l m)) ∙ taken-some k (work .terms) l n
+  work-some n = not-false (some (termsOf work)) (is-none ∙ ne-eqb k 0 n)
 
   pub work-none : k ≡ 0 → some (termsOf work) ≡ false
-  work-none e = ap some (sym (take-held (work .count) k (work .terms) l m) ∙ ap (λ (k : ℕ). take k (work .terms)) e)
+  work-none e = not-true (some (termsOf work)) (is-none ∙ eq-eqb k 0 e)
 
 -- the answer at the end, whether V came and whether the work polynomial is empty
 abbrev pub ending : ℕ → Bool → Bool → Told

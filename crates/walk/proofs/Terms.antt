@@ -1,37 +1,19 @@
 -- The record M in code: its refusals in their order, and the sum that is kept.
-use mathlib.Core.Path.{_≡_, refl, sym, ap, _∙_}
-use mathlib.Core.Bool.{Bool, true, false, cond}
+use mathlib.Core.Path.{_≡_, ap, _∙_}
+use mathlib.Core.Bool.{true, false}
 use mathlib.Core.List.{List, [], _∷_}
 use Prim.Native.Nat.{ℕ, _^_, _<_, _≤_}
 use lib.Dec.{leb, ltb}
 use lib.ListN.{length}
 use borrow.Author.Tests.{lt-leb, le-leb}
-use Rattle.run.specs.Boolean.{of-true}
 use Rattle.polynomial.specs.Polynomial.{termsOf, polynomialOf, outcomeOf, sumOf}
 use Rattle.polynomial.specs.declared.Polynomial.{Polynomial}
 use Rattle.polynomial.specs.declared.Outcome.{Outcome}
 use Rattle.record.specs.Record.{whole, numberAt, maskIn}
-use Rattle.record.specs.declared.Mask.{Mask}
 use Rattle.record.specs.declared.Mask.the-variants.{Whole, Cut}
+use Rattle.record.proofs.Bodies.{mask-cut, mask-whole}
 use Rattle.walk.specs.Walk.{mapped, Stop, nothing, refusedFor, Walked, after}
 use Rattle.walk.specs.Work.{termAdded}
-
--- ---- what a body that was read says of the bytes
-abbrev flag : Mask → Bool
-flag (Whole m) = true
-flag Cut = false
-
-abbrev held : Mask → ℕ
-held (Whole m) = m
-held Cut = 0
-
-read-flag : (b : Bool) (t : ℕ) → flag (cond b (Whole t) Cut) ≡ b
-read-flag true t = refl
-read-flag false t = refl
-
-read-held : (b : Bool) (t : ℕ) → b ≡ true → held (cond b (Whole t) Cut) ≡ t
-read-held true t e = refl
-read-held false t e = absurd (of-true e)
 
 abbrev pub stopped : Polynomial → Stop → Walked Polynomial
 stopped work x = record { reached = work; stop = x }
@@ -42,16 +24,14 @@ module _ (n : ℕ) (s : List ℕ) (at : ℕ) (work : Polynomial) where
 
   pub cut-short : maskIn s at ≡ Cut → stopped work (refusedFor 3) ≡ told
   unfolding termAdded
-  cut-short e =
-      let k : whole 4 s at ≡ false = sym (read-flag (whole 4 s at) (numberAt 4 s at)) ∙ ap flag e in
-      rw k
+  cut-short e = rw (mask-cut s at e)
 
   module _ (m : ℕ) (e : maskIn s at ≡ Whole m) where
     is-whole : whole 4 s at ≡ true
-    is-whole = sym (read-flag (whole 4 s at) (numberAt 4 s at)) ∙ ap flag e
+    is-whole = mask-whole s at m e .0
 
     is-number : numberAt 4 s at ≡ m
-    is-number = sym (read-held (whole 4 s at) (numberAt 4 s at) is-whole) ∙ ap held e
+    is-number = mask-whole s at m e .1
 
     pub unknown : ltb m (2 ^ n) ≡ false → stopped work (refusedFor 6) ≡ told
     unfolding termAdded

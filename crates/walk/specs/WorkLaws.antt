@@ -1,9 +1,9 @@
--- Laws of the record M: what an accepted term passed and what it makes, a polynomial again; and that no byte after it matters.
+-- Laws of the record M: what an accepted term passed and what it makes, a polynomial again; that it lies in the bytes, and that no byte after it matters.
 use mathlib.Core.Path.{_≡_, ap₂}
 use mathlib.Core.Bool.{Bool}
 use mathlib.Core.List.{List, [], _∷_}
 use Prim.Native.Nat.{ℕ, _+_, _^_, _≤_, _<_}
-use lib.Dec.{T, leb, ltb, ltb→lt}
+use lib.Dec.{T, leb, leb→le, ltb, ltb→lt}
 use lib.ListN.{length, take}
 use Rattle.polynomial.specs.Polynomial.{sumOf}
 use Rattle.polynomial.specs.PolynomialLaws.{sum-ordered, sum-below}
@@ -31,6 +31,10 @@ module _ (n : ℕ) (s : List ℕ) (at : ℕ) (f : List ℕ) where
 
   pub term-polynomial : (g : List ℕ) → T (isPolynomial n f) → termAdded n s at f ≡ accepted g → T (isPolynomial n g)
   term-polynomial g h e = rw e at (term-ind (λ r. Kept (λ g. T (isPolynomial n g)) r) (λ m. tt) (λ i j k. term-sum n (numberAt 4 s at) f j k h))
+
+  -- an accepted term lies in the bytes
+  pub term-inside : (g : List ℕ) → termAdded n s at f ≡ accepted g → at + 4 ≤ length s
+  term-inside g e = rw e at (term-ind (λ r. Kept (λ g. at + 4 ≤ length s) r) (λ m. tt) (λ i j k. leb→le (at + 4) (length s) i))
 
   pub term-take : (K : ℕ) → K ≤ length s → at + 4 ≤ K → termAdded n (take K s) at f ≡ termAdded n s at f
   unfolding termAdded

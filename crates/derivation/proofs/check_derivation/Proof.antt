@@ -3,11 +3,11 @@ use mathlib.Core.Path.{sym, ap, _∙_}
 use mathlib.Core.List.{List}
 use Prim.Native.Nat.{ℕ}
 use lib.Dec.{T}
-use lib.ListN.{length}
 use denote.Ref.{now}
-use borrow.Author.Tests.{not-true, not-false, eq-eqb, ne-eqb}
+use borrow.Author.Tests.{not-true, not-false}
 use borrow.Author.Needs.{needs}
 use Rattle.run.specs.Boolean.{of-true}
+use Rattle.configuration.specs.FormLaws.{sized-not, sized-is}
 use Rattle.configuration.specs.Memory.{Memory, memoryOf, wellFormed}
 use Rattle.derivation.specs.Derivation.{Left, leftOf}
 use Rattle.derivation.specs.DerivationLaws.{check-refused-1, check-refused-2, check-is}
@@ -36,7 +36,7 @@ returns : tie.Need-returns
 returns c =
     let s = c .before .before .before .before .before in
     let m = memory s in
-    ap (left-in s) (c .turned-away .ensures) ∙ sym (check-refused-1 (bytes s) m (rw (ne-eqb (length (m .terms)) 8192 (c .before .if1 .taken))))
+    ap (left-in s) (c .turned-away .ensures) ∙ sym (check-refused-1 (bytes s) m (sized-not m (λ k. c .before .if1 .taken (k .0))))
 
 turned-away-requires-2 : tie.Need-turned-away-requires-2
 turned-away-requires-2 c κs = search needs
@@ -45,8 +45,7 @@ returns-2 : tie.Need-returns-2
 returns-2 c =
     let s = c .before .before .before .before .before .before in
     let m = memory s in
-    ap (left-in s) (c .turned-away2 .ensures) ∙ sym (check-refused-1 (bytes s) m
-    (rw (eq-eqb (length (m .terms)) 8192 (c .before .before .if1 .left), ne-eqb (length (m .weights)) 128 (c .before .if2 .taken))))
+    ap (left-in s) (c .turned-away2 .ensures) ∙ sym (check-refused-1 (bytes s) m (sized-not m (λ k. c .before .if2 .taken (k .1))))
 
 turned-away-requires-3 : tie.Need-turned-away-requires-3
 turned-away-requires-3 c κs = search needs
@@ -55,13 +54,7 @@ returns-3 : tie.Need-returns-3
 returns-3 c =
     let s = c .before .before .before .before .before .before .before in
     let m = memory s in
-    ap (left-in s) (c .turned-away3 .ensures) ∙ sym (check-refused-1 (bytes s) m
-    (rw (
-      eq-eqb (length (m .terms)) 8192 (c .before .before .before .if1 .left),
-      eq-eqb (length (m .weights)) 128 (c .before .before .if2 .left),
-      ne-eqb
-          (length (m .counts)) 128 (c .before .if3 .taken),
-    )))
+    ap (left-in s) (c .turned-away3 .ensures) ∙ sym (check-refused-1 (bytes s) m (sized-not m (λ k. c .before .if3 .taken (k .2))))
 
 well-formed-requires : tie.Need-well-formed-requires
 well-formed-requires c κs = search needs
@@ -83,13 +76,8 @@ returns-4 c =
     let s = c .before .before .before .before .before .before .before .before .before .before .before .before in
     let m = memory s in
     ap (left-in s) (c .turned-away4 .ensures) ∙ sym (check-refused-2 (bytes s) m
-    (rw (
-      eq-eqb (length (m .terms)) 8192 (c .before .before .before .before .before .before .before .before .if1 .left),
-      eq-eqb (length (m .weights)) 128
-          (c .before .before .before .before .before .before .before .if2 .left),
-      eq-eqb (length (m .counts)) 128
-          (c .before .before .before .before .before .before .if3 .left),
-    ) tt)
+    (of-true (sized-is m (c .before .before .before .before .before .before .before .before .if1 .left) (c .before .before .before .before .before .before .before .if2 .left)
+    (c .before .before .before .before .before .before .if3 .left)))
     (sym (c .before .before .well-formed .ensures) ∙ not-true (c .before .before .well-formed .result) (c .before .if4 .taken)))
 
 read-records-requires : tie.Need-read-records-requires

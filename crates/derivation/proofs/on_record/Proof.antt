@@ -3,13 +3,14 @@ use mathlib.Core.Path.{sym, ap, _∙_}
 use Prim.Native.Nat.{_-_}
 use denote.Ref.{now}
 use borrow.Author.Needs.{needs}
-use Rattle.derivation.proofs.Entries.{turned-down}
+use Rattle.derivation.proofs.Entries.{turned-down, for-these}
 use Rattle.run.specs.Boolean.{left}
 use Rattle.refusal.specs.declared.Reason.the-variants.{Misplaced}
-use Rattle.derivation.specs.Derivation.{onRecord}
+use Rattle.derivation.specs.Derivation.{onMode, onTerm, onChoice, onRecord}
 use Rattle.derivation.specs.Held.{progressOf}
 use Rattle.derivation.proofs.Letters.{is-term, is-choice, is-sum, is-prod, is-claim, is-plain, is-signed, is-none}
 use Rattle.derivation.proofs.on_record.Statement.{statement}
+use Rattle.calculus.specs.declared.Mode.the-variants.{Plain, Signed}
 use Rattle.walk.specs.Walk as W
 use Rattle.derivation.proofs.on_record.Tie as tie
 
@@ -25,11 +26,8 @@ returns c =
     let a = s .args in
     let p = a .p in
     let x = progressOf p (now (a .terms)) (now (a .weights)) (now (a .counts)) in
-    let e = is-term (p .head .variables) (now (a .bytes)) x (c .before .if1 .taken) in (
-      c .on-term .ensures .0 (now (a .terms)) (now (a .weights)) (now (a .counts)) (s .pre .1) ∙ ap (W.after x) (sym e),
-      c .on-term .ensures .1 (now (a .terms))
-          (now (a .weights)) (now (a .counts)) (s .pre .1),
-    )
+    for-these (p .head .variables) p (c .on-term .result) (onTerm (p .head .variables) (now (a .bytes))) (now (a .terms)) (now (a .weights)) (now (a .counts)) _ (s .pre .1)
+    (is-term (p .head .variables) (now (a .bytes)) x (c .before .if1 .taken)) (c .on-term .ensures)
 
 on-choice-requires : tie.Need-on-choice-requires
 on-choice-requires c κs = search needs
@@ -40,11 +38,8 @@ returns-2 c =
     let a = s .args in
     let p = a .p in
     let x = progressOf p (now (a .terms)) (now (a .weights)) (now (a .counts)) in
-    let e = is-choice (p .head .variables) (now (a .bytes)) x (c .before .if2 .taken) in (
-      c .on-choice .ensures .0 (now (a .terms)) (now (a .weights)) (now (a .counts)) (s .pre .1) ∙ ap (W.after x) (sym e),
-      c .on-choice .ensures .1 (now (a .terms))
-          (now (a .weights)) (now (a .counts)) (s .pre .1),
-    )
+    for-these (p .head .variables) p (c .on-choice .result) onChoice (now (a .terms)) (now (a .weights)) (now (a .counts)) _ (s .pre .1)
+    (is-choice (p .head .variables) (now (a .bytes)) x (c .before .if2 .taken)) (c .on-choice .ensures)
 
 on-step-requires : tie.Need-on-step-requires
 on-step-requires c κs = search needs
@@ -121,11 +116,8 @@ returns-6 c =
     let a = s .args in
     let p = a .p in
     let x = progressOf p (now (a .terms)) (now (a .weights)) (now (a .counts)) in
-    let e = is-plain (p .head .variables) (now (a .bytes)) x (c .before .if6 .taken) in (
-      c .on-mode .ensures .0 (now (a .terms)) (now (a .weights)) (now (a .counts)) (s .pre .1) ∙ ap (W.after x) (sym e),
-      c .on-mode .ensures .1 (now (a .terms))
-          (now (a .weights)) (now (a .counts)) (s .pre .1),
-    )
+    for-these (p .head .variables) p (c .on-mode .result) (onMode Plain) (now (a .terms)) (now (a .weights)) (now (a .counts)) _ (s .pre .1)
+    (is-plain (p .head .variables) (now (a .bytes)) x (c .before .if6 .taken)) (c .on-mode .ensures)
 
 on-mode-requires-2 : tie.Need-on-mode-requires-2
 on-mode-requires-2 c κs = search needs
@@ -136,11 +128,8 @@ returns-7 c =
     let a = s .args in
     let p = a .p in
     let x = progressOf p (now (a .terms)) (now (a .weights)) (now (a .counts)) in
-    let e = is-signed (p .head .variables) (now (a .bytes)) x (c .before .if7 .taken) in (
-      c .on-mode2 .ensures .0 (now (a .terms)) (now (a .weights)) (now (a .counts)) (s .pre .1) ∙ ap (W.after x) (sym e),
-      c .on-mode2 .ensures .1 (now (a .terms))
-          (now (a .weights)) (now (a .counts)) (s .pre .1),
-    )
+    for-these (p .head .variables) p (c .on-mode2 .result) (onMode Signed) (now (a .terms)) (now (a .weights)) (now (a .counts)) _ (s .pre .1)
+    (is-signed (p .head .variables) (now (a .bytes)) x (c .before .if7 .taken)) (c .on-mode2 .ensures)
 
 refused-requires : tie.Need-refused-requires
 refused-requires c κs = search needs

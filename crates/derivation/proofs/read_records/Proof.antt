@@ -9,7 +9,7 @@ use Rattle.run.specs.Boolean.{left}
 use Rattle.derivation.specs.Derivation.{checking}
 use Rattle.derivation.specs.Held.{progressOf}
 use Rattle.walk.specs.Walk.{walk}
-use Rattle.derivation.proofs.Loops.{Walks, starts, ready-now, goes-on, fewer, refused-count, refused-there, ends}
+use Rattle.derivation.proofs.Loops.{Walks, starts, ready-now, goes-on, fewer, refused-count, refused-there, ends-there}
 use Rattle.derivation.proofs.read_records.Statement.{statement}
 use Rattle.derivation.proofs.read_records.Tie as tie
 
@@ -111,7 +111,7 @@ returns-2 : tie.Need-returns-2 Inv-loop μ-loop
 returns-2 c =
     let l = c .before .before .before .before .before .before .before .loop in
     let s = c .before .before .before .before .before .before .before .before .before .before .before .args in
-    ends (s .head .variables) (now (s .bytes)) _ (l .p) (l .terms) (l .weights) (l .counts) (l .inv .0) (c .before .before .before .before .before .if1 .left)
+    ends-there (s .head .variables) (now (s .bytes)) _ (l .p) (l .terms) (l .weights) (l .counts) (l .inv .0) (c .before .before .before .before .before .if1 .left)
     (c .finish .result) (c .finish .ensures)
 
 pub read-records-spec : {M : Type 1} → statement M

@@ -7,11 +7,13 @@ use lib.ListN.{length}
 use denote.Ref.{now}
 use borrow.Author.Needs.{needs}
 use Rattle.polynomial.specs.Polynomial.{polynomialOf}
-use Rattle.walk.specs.Walk.{Walked, stopOf, after, over}
+use Rattle.walk.specs.Walk.{readAll, Walked, stopOf, after, over}
 use Rattle.walk.specs.declared.Turn.{Turn}
-use Rattle.problem.specs.Problem.{State, onRecord, filing, leaves}
+use Rattle.problem.specs.Problem.{empty, State, onRecord, filing, leaves}
 use Rattle.problem.specs.Held.{progressOf, Ready}
-use Rattle.problem.proofs.Walks.{Leads, first-ready, first-leads, inside, next-leads, unmoved, ends-refused, ends, left-there, left-refused}
+use Rattle.walk.proofs.Leads.{Leads, ends, inside, next-leads, unmoved, ends-refused}
+use Rattle.problem.specs.RefusedLaws.{filing-local}
+use Rattle.problem.proofs.Walks.{first-ready, first-leads, left-there, left-refused}
 use Rattle.problem.proofs.read_records.Statement.{statement}
 use Rattle.walk.specs.Walk as W
 use Rattle.problem.proofs.read_records.Tie as tie
@@ -19,7 +21,7 @@ use Rattle.problem.proofs.read_records.Tie as tie
 abbrev Inv-loop : tie.InvT-loop
 Inv-loop bytes terms₀ weights₀ counts₀ p₀ terms weights counts p =
     (length terms ≡ length terms₀) × (length weights ≡ length weights₀) × (length counts ≡ length counts₀) × (p .at ≤ length bytes) × Ready p terms weights counts
-    × Leads bytes (progressOf p terms weights counts)
+    × Leads filing bytes (readAll filing bytes empty) (progressOf p terms weights counts)
 
 abbrev μ-loop : tie.MeasureT-loop
 μ-loop bytes terms₀ weights₀ counts₀ p₀ terms weights counts p = length bytes - p .at
@@ -68,7 +70,7 @@ enum-known-turn c = search needs
 add-t24 : tie.Need-add-t24 Inv-loop μ-loop
 add-t24 c =
     let k = c .before .before .before .before .before .before .before .before .before .before .before in
-    let u : is k .at ≡ was k .at = ap (λ (q : W.Progress State). q .at) (unmoved (now (start k .args .bytes)) (was k) (is k) (counted k) (under k) _ (told k _ (c .before .before .before .turn .given .1))) in
+    let u : is k .at ≡ was k .at = ap (λ (q : W.Progress State). q .at) (unmoved filing (now (start k .args .bytes)) (was k) (is k) _ (told k _ (c .before .before .before .turn .given .1))) in
     let n = k .on-record .ensures .1 .counted in
     let d = under k in
     let g = short (k .before .before .before .before .before .before .before .before .before) in
@@ -88,7 +90,7 @@ returns c =
     let k = c .before .before .before .before .before .before .before .before .before .before .before in
     let r = k .on-record in
     left-refused (r .result .progress) (r .last .1 .1 .0) (r .last .1 .1 .1 .0) (r .last .1 .1 .1 .1 .0) (c .before .before .before .turn .given .0 .0) (r .ensures .1)
-    ∙ ap leaves (ends-refused (now (start k .args .bytes)) (was k) (is k) (counted k) (under k) _ (told k _ (c .before .before .before .turn .given .1))
+    ∙ ap leaves (ends-refused filing (now (start k .args .bytes)) (was k) (is k) _ (told k _ (c .before .before .before .turn .given .1)) _ (counted k) (under k)
     (k .before .before .before .before .before .before .loop .inv .5))
 
 enum-told : tie.Need-enum-told Inv-loop μ-loop
@@ -97,7 +99,7 @@ enum-told c = search needs
 loop-less : tie.Need-loop-less Inv-loop μ-loop
 loop-less c =
     let k = c .before .before .before .before .before .before .before .before in
-    let i = inside (now (start k .args .bytes)) (was k) (is k) (counted k) (under k) (told k _ (c .enum-told .given .1)) in
+    let i = inside filing (now (start k .args .bytes)) (was k) (is k) filing-local (told k _ (c .enum-told .given .1)) in
     let m = i .0 in
     let n = i .1 in
     omega arith
@@ -109,10 +111,10 @@ loop-again c =
       search needs,
       search needs,
       search needs,
-      inside (now (start k .args .bytes)) (was k) (is k) (counted k) (under k) e .1,
+      inside filing (now (start k .args .bytes)) (was k) (is k) filing-local e .1,
       k .on-record .ensures .1,
       next-leads
-          (now (start k .args .bytes)) (was k) (is k) (counted k) (under k) e (k .before .before .before .before .before .before .loop .inv .5),
+          filing (now (start k .args .bytes)) (was k) (is k) filing-local e _ (counted k) (under k) (k .before .before .before .before .before .before .loop .inv .5),
     )
 
 finish-requires : tie.Need-finish-requires Inv-loop μ-loop
@@ -137,7 +139,7 @@ returns-2 c =
     let s = c .before .before .before .before .before .before .before .before in
     let q : W.Progress State = progressOf (l .p) (l .terms) (l .weights) (l .counts) in
     left-there (l .p) (l .terms) (l .weights) (l .counts) (c .finish .result) (over filing q .stop) (l .inv .4) (c .finish .ensures)
-    ∙ ap leaves (ends (now (s .args .bytes)) q (c .before .before .if1 .left) (l .inv .5))
+    ∙ ap leaves (ends filing (now (s .args .bytes)) _ q (c .before .before .if1 .left) (l .inv .5))
 
 pub read-records-spec : {M : Type 1} → statement M
 read-records-spec =

@@ -7,8 +7,8 @@ use Prim.Native.Nat.{ℕ}
 use native.Mathlib.Omega.{arith}
 use lib.Dec.{T}
 use lib.ListN.{length-take}
-use denote.Ref.{now}
 use mir.Facts.{toZ-ofZ}
+use denote.Ref.{now}
 use borrow.Author.Needs.{needs}
 use borrow.Author.Tests.{not-true, not-false}
 use Rattle.polynomial.specs.Polynomial.{termsOf}
@@ -22,7 +22,8 @@ use Rattle.calculus.specs.Calculus.{conclusions, changes, allShort, step
 use Rattle.calculus.specs.declared.Rule.the-variants.{Sum, Prod}
 use Rattle.calculus.specs.declared.Objection.{Objection}
 use Rattle.calculus.specs.declared.Stepped.{Stepped}
-use Rattle.calculus.proofs.Steps.{Made, made-as, made-sum, made-prod, below-32, few-variables, table-formed, Judged, objected-is, in-range, answered, answered-is}
+use Rattle.configuration.specs.MemoryLaws.{variables-bound}
+use Rattle.calculus.proofs.Steps.{Made, made-as, made-sum, made-prod, below-32, table-formed, Judged, objected-is, in-range, answered, answered-is}
 use Rattle.calculus.proofs.step.step.Statement.{statement}
 use Rattle.calculus.proofs.step.step.Tie as tie
 
@@ -171,7 +172,7 @@ enum-told-3 c = search needs
 plan-prod-requires : tie.Need-plan-prod-requires
 plan-prod-requires c κs =
     let s = start (c .before .before) in
-    let n = few-variables (memory s) (s .pre .0) in (
+    let n = variables-bound (memory s) (s .pre .0) in (
       rw (toZ-ofZ (s .fits .amount)) (amount-fits (c .before .before)),
       below-32 (s .args .head .variables) (termsOf (s .args .f)) n (s .pre .1),
       below-32 (s .args .head .variables) (termsOf (s .args .g)) n (s .pre .2),

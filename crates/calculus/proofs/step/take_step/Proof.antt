@@ -4,8 +4,8 @@ use mathlib.Core.Bool.{true}
 use mathlib.Core.List.{List}
 use Prim.Native.Nat.{ℕ}
 use lib.Dec.{T}
-use denote.Ref.{now}
 use mir.Facts.{toZ-ofZ}
+use denote.Ref.{now}
 use borrow.Author.Needs.{needs}
 use borrow.Author.Tests.{not-true, not-false}
 use Rattle.run.specs.Boolean.{of-true}
@@ -16,7 +16,8 @@ use Rattle.configuration.specs.Replacement.{Step}
 use Rattle.calculus.specs.Calculus.{step, objected, Left, leftOf, leaves, directStep}
 use Rattle.calculus.specs.declared.Objection.{Objection}
 use Rattle.calculus.specs.declared.Stepped.{Stepped}
-use Rattle.calculus.proofs.Steps.{operands-fit, polynomial-short, loaded, other-lengths, not-formed, stepped}
+use Rattle.configuration.specs.FormLaws.{polynomial-short}
+use Rattle.calculus.proofs.Steps.{operands-fit, loaded, other-lengths, not-formed, stepped}
 use Rattle.calculus.proofs.step.take_step.Statement.{statement}
 use Rattle.calculus.proofs.step.take_step.Tie as tie
 
@@ -78,7 +79,7 @@ returns-2 : tie.Need-returns-2
 returns-2 c =
     let s = c .before .before .before .before .before .before .before in
     ap (left-in s) (c .refused2 .ensures)
-    ∙ other-lengths (s .args .rule) (s .args .mode) (now (s .args .f)) (now (s .args .g)) (s .args .amount) (memory s) (λ k. c .before .if2 .taken (k .1 .0))
+    ∙ other-lengths (s .args .rule) (s .args .mode) (now (s .args .f)) (now (s .args .g)) (s .args .amount) (memory s) (λ k. c .before .if2 .taken (k .1))
 
 refused-requires-3 : tie.Need-refused-requires-3
 refused-requires-3 c κs = search needs
@@ -87,7 +88,7 @@ returns-3 : tie.Need-returns-3
 returns-3 c =
     let s = c .before .before .before .before .before .before .before .before in
     ap (left-in s) (c .refused3 .ensures)
-    ∙ other-lengths (s .args .rule) (s .args .mode) (now (s .args .f)) (now (s .args .g)) (s .args .amount) (memory s) (λ k. c .before .if3 .taken (k .1 .1))
+    ∙ other-lengths (s .args .rule) (s .args .mode) (now (s .args .f)) (now (s .args .g)) (s .args .amount) (memory s) (λ k. c .before .if3 .taken (k .2))
 
 well-formed-requires : tie.Need-well-formed-requires
 well-formed-requires c κs = search needs

@@ -2,13 +2,11 @@
 use mathlib.Core.Path.{_≡_, refl, sym, ap, _∙_}
 use mathlib.Core.Bool.{Bool, not}
 use Prim.Native.Nat.{_-_}
-use native.Mathlib.Omega.{arith}
 use lib.IntN.{ℤ, pos}
 use lib.ListN.{getD, take, drop}
-use lib.Seq.{getD-take, length-take-le}
 use borrow.Author.Needs.{needs}
 use Rattle.configuration.specs.Weight.{isNegative, noneNegative}
-use Rattle.configuration.proofs.Areas.{stops, goes-on, ends, read-back}
+use Rattle.configuration.proofs.Areas.{first-stops, first-goes-on, first-ends, read-back}
 use Rattle.configuration.proofs.form.none_negative.Statement.{statement}
 use Rattle.configuration.proofs.form.none_negative.Tie as tie
 
@@ -46,12 +44,8 @@ unfolding noneNegative
 returns c =
     let l = c .before .before .before .before .loop in
     let s = c .before .before .before .before .before in
-    let ws = s .args .weights .now in
-    let n = s .args .lines in
-    let k = length-take-le n ws (s .pre) in
-    stops nonNegative noneNegative refl (λ w r. refl) (take n ws) (l .i) (pos 0) (omega arith)
-    (ap nonNegative (getD-take n ws (l .i) (pos 0) (c .before .before .before .loop-test .taken))
-    ∙ ap not (sym (tested (c .before)) ∙ c .if1 .taken)) (l .inv)
+    first-stops nonNegative noneNegative refl (λ w r. refl) (s .args .weights .now) (s .args .lines) (l .i) (pos 0) (s .pre) (l .inv) (c .before .before .before .loop-test .taken)
+    (ap not (sym (tested (c .before)) ∙ c .if1 .taken))
 
 add-i : tie.Need-add-i Inv-loop μ-loop
 add-i c = search needs
@@ -64,20 +58,15 @@ unfolding noneNegative
 loop-again c =
     let l = c .before .before .before .before .loop in
     let s = c .before .before .before .before .before in
-    let ws = s .args .weights .now in
-    let n = s .args .lines in
-    let k = length-take-le n ws (s .pre) in
-    goes-on nonNegative noneNegative refl (λ w r. refl) (take n ws) (l .i) (pos 0) (omega arith)
-    (ap nonNegative (getD-take n ws (l .i) (pos 0) (c .before .before .before .loop-test .taken))
-    ∙ ap not (sym (tested (c .before)) ∙ c .if1 .left)) (l .inv)
+    first-goes-on nonNegative noneNegative refl (λ w r. refl) (s .args .weights .now) (s .args .lines) (l .i) (pos 0) (s .pre) (l .inv) (c .before .before .before .loop-test .taken)
+    (ap not (sym (tested (c .before)) ∙ c .if1 .left))
 
 returns-2 : tie.Need-returns-2 Inv-loop μ-loop
 unfolding noneNegative
 returns-2 c =
     let l = c .before .loop in
     let s = c .before .before in
-    let k = length-take-le (s .args .lines) (s .args .weights .now) (s .pre) in
-    ends nonNegative noneNegative refl (λ w r. refl) (take (s .args .lines) (s .args .weights .now)) (l .i) (pos 0) (omega arith) (l .inv)
+    first-ends nonNegative noneNegative refl (λ w r. refl) (s .args .weights .now) (s .args .lines) (l .i) (pos 0) (s .pre) (l .inv) (c .loop-test .left)
 
 pub none-negative-spec : {M : Type 1} → statement M
 none-negative-spec =

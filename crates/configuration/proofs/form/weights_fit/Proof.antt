@@ -1,14 +1,12 @@
 -- `weights_fit` meets its contract. The invariant: the first weights are within the limit just if those from `i` on are.
 use mathlib.Core.Path.{_≡_, refl, sym, ap, _∙_}
 use Prim.Native.Nat.{_-_}
-use native.Mathlib.Omega.{arith}
 use lib.IntN.{pos}
 use lib.ListN.{getD, take, drop}
-use lib.Seq.{getD-take, length-take-le}
 use borrow.Author.Needs.{needs}
 use borrow.Author.Tests.{not-true, not-false}
 use Rattle.configuration.specs.Weight.{inRange, allInRange}
-use Rattle.configuration.proofs.Areas.{stops, goes-on, ends, read-back}
+use Rattle.configuration.proofs.Areas.{first-stops, first-goes-on, first-ends, read-back}
 use Rattle.configuration.proofs.form.weights_fit.Statement.{statement}
 use Rattle.configuration.proofs.form.weights_fit.Tie as tie
 
@@ -42,12 +40,8 @@ unfolding allInRange
 returns c =
     let l = c .before .before .before .before .loop in
     let s = c .before .before .before .before .before in
-    let ws = s .args .weights .now in
-    let n = s .args .lines in
-    let k = length-take-le n ws (s .pre) in
-    stops inRange allInRange refl (λ w r. refl) (take n ws) (l .i) (pos 0) (omega arith)
-    (ap inRange (getD-take n ws (l .i) (pos 0) (c .before .before .before .loop-test .taken))
-    ∙ sym (tested (c .before)) ∙ not-true (c .before .within-limit .result) (c .if1 .taken)) (l .inv)
+    first-stops inRange allInRange refl (λ w r. refl) (s .args .weights .now) (s .args .lines) (l .i) (pos 0) (s .pre) (l .inv) (c .before .before .before .loop-test .taken)
+    (sym (tested (c .before)) ∙ not-true (c .before .within-limit .result) (c .if1 .taken))
 
 add-i : tie.Need-add-i Inv-loop μ-loop
 add-i c = search needs
@@ -60,20 +54,15 @@ unfolding allInRange
 loop-again c =
     let l = c .before .before .before .before .loop in
     let s = c .before .before .before .before .before in
-    let ws = s .args .weights .now in
-    let n = s .args .lines in
-    let k = length-take-le n ws (s .pre) in
-    goes-on inRange allInRange refl (λ w r. refl) (take n ws) (l .i) (pos 0) (omega arith)
-    (ap inRange (getD-take n ws (l .i) (pos 0) (c .before .before .before .loop-test .taken))
-    ∙ sym (tested (c .before)) ∙ not-false (c .before .within-limit .result) (c .if1 .left)) (l .inv)
+    first-goes-on inRange allInRange refl (λ w r. refl) (s .args .weights .now) (s .args .lines) (l .i) (pos 0) (s .pre) (l .inv) (c .before .before .before .loop-test .taken)
+    (sym (tested (c .before)) ∙ not-false (c .before .within-limit .result) (c .if1 .left))
 
 returns-2 : tie.Need-returns-2 Inv-loop μ-loop
 unfolding allInRange
 returns-2 c =
     let l = c .before .loop in
     let s = c .before .before in
-    let k = length-take-le (s .args .lines) (s .args .weights .now) (s .pre) in
-    ends inRange allInRange refl (λ w r. refl) (take (s .args .lines) (s .args .weights .now)) (l .i) (pos 0) (omega arith) (l .inv)
+    first-ends inRange allInRange refl (λ w r. refl) (s .args .weights .now) (s .args .lines) (l .i) (pos 0) (s .pre) (l .inv) (c .loop-test .left)
 
 pub weights-fit-spec : {M : Type 1} → statement M
 weights-fit-spec =

@@ -7,24 +7,24 @@ use borrow.Author.Needs.{needs}
 use borrow.Author.Tests.{not-true, not-false}
 use Rattle.run.specs.Boolean.{of-true}
 use Rattle.configuration.specs.Memory.{laidOut}
-use Rattle.configuration.proofs.Forms.{other-terms, other-weights, other-counts, too-many-lines, too-many-variables, not-laid, not-fit, the-weights}
+use Rattle.configuration.proofs.Forms.{other-lengths, too-many-lines, too-many-variables, not-laid, not-fit, the-weights}
 use Rattle.configuration.proofs.form.well_formed.Statement.{statement}
 use Rattle.configuration.proofs.form.well_formed.Tie as tie
 
 returns : tie.Need-returns
 returns c =
     let a = c .before .before .before .args in
-    other-terms (a .head .variables) (a .head .lines) (now (a .terms)) (now (a .weights)) (now (a .counts)) (c .if1 .taken)
+    other-lengths (a .head .variables) (a .head .lines) (now (a .terms)) (now (a .weights)) (now (a .counts)) (λ k. c .if1 .taken (k .0))
 
 returns-2 : tie.Need-returns-2
 returns-2 c =
     let a = c .before .before .before .before .args in
-    other-weights (a .head .variables) (a .head .lines) (now (a .terms)) (now (a .weights)) (now (a .counts)) (c .before .if1 .left) (c .if2 .taken)
+    other-lengths (a .head .variables) (a .head .lines) (now (a .terms)) (now (a .weights)) (now (a .counts)) (λ k. c .if2 .taken (k .1))
 
 returns-3 : tie.Need-returns-3
 returns-3 c =
     let a = c .before .before .before .before .before .args in
-    other-counts (a .head .variables) (a .head .lines) (now (a .terms)) (now (a .weights)) (now (a .counts)) (c .before .before .if1 .left) (c .before .if2 .left) (c .if3 .taken)
+    other-lengths (a .head .variables) (a .head .lines) (now (a .terms)) (now (a .weights)) (now (a .counts)) (λ k. c .if3 .taken (k .2))
 
 cast-lines : tie.Need-cast-lines
 cast-lines c = search needs

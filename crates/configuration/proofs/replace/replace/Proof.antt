@@ -1,19 +1,17 @@
 -- `replace` meets its contract: the changes are folded among themselves, the outcome is judged, and only then folded in.
 use mathlib.Core.Path.{_≡_, sym, _∙_}
-use mathlib.Core.Bool.{_&&_}
 use mathlib.Core.List.{List, []}
 use Prim.Native.Nat.{_≤_}
-use lib.Dec.{T, leb}
+use lib.Dec.{T}
 use lib.IntN.{ℤ}
 use lib.ListN.{length, take}
 use lib.Seq.{length-take-le}
 use borrow.Author.Needs.{needs}
-use Rattle.run.specs.Boolean.{left}
-use Rattle.configuration.specs.Configuration.{Line, addAll, weightsFit}
+use Rattle.configuration.specs.Configuration.{Line, addAll}
 use Rattle.configuration.specs.Memory.{Memory, memoryOf, linesOf, imageOf, formed}
 use Rattle.configuration.specs.Replacement.{changesOf}
 use Rattle.configuration.specs.ReplacementLaws.{length-before, length-after}
-use Rattle.configuration.specs.MemoryLaws.{formed-parts}
+use Rattle.configuration.specs.MemoryLaws.{well-formed, formed-parts}
 use Rattle.configuration.proofs.Replacements.{changes-length, table-length, net-formed, net-variables, net-small, prefix-fits, whole-formed, refused, in-limits, in-lines-limit, replaced-is}
 use Rattle.configuration.proofs.replace.replace.Statement.{statement}
 use Rattle.configuration.proofs.replace.replace.Tie as tie
@@ -110,7 +108,7 @@ slice-aggregate-judge-2 c = sym (length-take-le _ _ (after-fits (c .before .befo
 judge-requires : tie.Need-judge-requires
 judge-requires c κs =
     let s = start (folded (c .before .before .before .before .before .before)) in
-    formed-parts 128 (old s) (left (formed 128 (old s)) (leb ((old s) .variables) 32 && weightsFit (linesOf (old s))) (s .pre .0)) .room
+    formed-parts 128 (old s) (well-formed (old s) (s .pre .0)) .room
 
 enum-told : tie.Need-enum-told
 enum-told c = search needs

@@ -1,23 +1,22 @@
 -- `weigh` meets its contract. The invariant: the first `i` weights are found, before and after.
 use mathlib.Core.Path.{_≡_, refl, sym, ap, _∙_, subst}
-use mathlib.Core.Bool.{_&&_}
 use mathlib.Core.List.{List, _++_}
 use Prim.Native.Nat.{ℕ, _-_, _^_, _≤_, _<_}
 use native.Mathlib.Omega.{arith}
-use lib.Dec.{T, leb}
+use lib.Dec.{T}
 use lib.IntN.{ℤ, pos, _+ℤ_}
 use lib.Signed.{mag}
 use lib.ListN.{length, getD, take, drop, length-set}
 use mir.Syntax.{w64}
 use mir.Val.{toZ, ofZ}
 use borrow.Author.Needs.{needs}
-use Rattle.run.specs.Boolean.{left, right}
+use Rattle.run.specs.Boolean.{left}
 use Rattle.configuration.specs.Weight.{limit}
 use Rattle.configuration.specs.Configuration.{some, weight, weightsFit}
 use Rattle.configuration.specs.Memory.{Memory, memoryOf, linesOf, linesIn, readLines, formed}
 use Rattle.configuration.specs.Replacement.{weightsBefore, weightsAfter}
 use Rattle.configuration.specs.PlaceLaws.{fit-weight}
-use Rattle.configuration.specs.MemoryLaws.{Formed, formed-parts, length-lines}
+use Rattle.configuration.specs.MemoryLaws.{well-formed, weights-bound, Formed, formed-parts, length-lines}
 use Rattle.configuration.specs.ReplacementLaws.{in-range-mag}
 use Rattle.configuration.proofs.Areas.{read-back}
 use Rattle.configuration.proofs.Forms.{rowAt}
@@ -68,7 +67,7 @@ abbrev amount : At → ℤ
 amount c = getD ((new c) .weights) (index c) (pos 0)
 
 is-old : (c : At) → T (formed 128 (old c))
-is-old c = left (formed 128 (old c)) (leb ((old c) .variables) 32 && weightsFit (linesOf (old c))) (c .before .before .before .before .before .before .before .before .pre .0)
+is-old c = well-formed (old c) (c .before .before .before .before .before .before .before .before .pre .0)
 
 is-new : (c : At) → T (formed 4 (new c))
 is-new c = c .before .before .before .before .before .before .before .before .pre .1
@@ -83,8 +82,7 @@ in-new c =
 
 held-mag : (c : At) → mag (weight (linesOf (old c)) (polynomial c)) ≤ limit
 held-mag c =
-    let w : T (weightsFit (linesOf (old c))) = right (leb ((old c) .variables) 32) (weightsFit (linesOf (old c)))
-    (right (formed 128 (old c)) (leb ((old c) .variables) 32 && weightsFit (linesOf (old c))) (c .before .before .before .before .before .before .before .before .pre .0)) in
+    let w : T (weightsFit (linesOf (old c))) = weights-bound (old c) (c .before .before .before .before .before .before .before .before .pre .0) in
     in-range-mag (weight (linesOf (old c)) (polynomial c)) (fit-weight (linesOf (old c)) (table-ordered 128 (old c) (is-old c)) w (polynomial c))
 
 amount-mag : (c : At) → mag (amount c) < 2 ^ 45

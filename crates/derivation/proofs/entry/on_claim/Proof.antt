@@ -14,8 +14,9 @@ use mir.Facts.{toZ-ofZ}
 use denote.Ref.{now}
 use borrow.Author.Tests.{not-true, not-false}
 use borrow.Author.Needs.{needs}
-use Rattle.walk.specs.declared.Turn.the-variants.{Accepted}
-use Rattle.derivation.proofs.Entries.{closing, turned-down, lower, not-lower, weights-room, isIdle, claim-misplaced, claim-cut, claim-range, claim-negative, claim-high, claim-closed}
+use Rattle.walk.specs.declared.Turn.the-variants.{Accepted, Refused}
+use Rattle.configuration.specs.WeightLaws.{lower, not-lower}
+use Rattle.derivation.proofs.Entries.{left-by, closing, turned-down, weights-room, isIdle, claim-misplaced, claim-cut, claim-range, claim-negative, claim-high, claim-closed}
 use Rattle.run.specs.Boolean.{of-true, left}
 use Rattle.refusal.specs.declared.Reason.the-variants.{Misplaced, CutShort, OutOfRange, NegativeLine, ClaimTooHigh}
 use Rattle.configuration.specs.Configuration.{weight, anyNegative}
@@ -25,9 +26,13 @@ use Rattle.calculus.proofs.Steps.{table-formed}
 use Rattle.record.specs.Record.{amountIn}
 use Rattle.record.specs.declared.Amount.the-variants.{Whole}
 use Rattle.record.proofs.Bodies.{amount-whole}
-use Rattle.derivation.specs.Derivation.{claimFits, onClaim}
-use Rattle.derivation.specs.Held.{progressOf}
+use Rattle.derivation.specs.Derivation.{State, claimFits, onClaim}
+use Rattle.refusal.specs.Refusal.{numberOf}
+use Rattle.refusal.specs.declared.Reason.{Reason}
+use Rattle.derivation.specs.declared.Step.{Step}
+use Rattle.derivation.specs.Held.{progressOf, Ready}
 use Rattle.derivation.proofs.entry.on_claim.Statement.{statement}
+use Rattle.walk.specs.Walk as W
 use Rattle.derivation.proofs.entry.on_claim.Tie as tie
 
 abbrev bytes : tie.Start → List ℕ
@@ -35,6 +40,18 @@ bytes s = now (s .args .bytes)
 
 abbrev memory : tie.Start → Memory
 memory s = memoryOf (s .args .p .head) (now (s .args .terms)) (now (s .args .weights)) (now (s .args .counts))
+
+abbrev progress : tie.Start → W.Progress State
+progress s = progressOf (s .args .p) (now (s .args .terms)) (now (s .args .weights)) (now (s .args .counts))
+
+-- a refusal, for the reason that the definition has
+refuse : (s : tie.Start) (reason : Reason) (r : Step) → r ≡ record { progress = s .args .p; turn = Refused reason } → onClaim (bytes s) (progress s) ≡ W.turnedDown (numberOf reason)
+    → (let a = s .args in
+    (left-by (now (a .terms)) (now (a .weights)) (now (a .counts)) r ≡ W.after (progress s) (onClaim (bytes s) (progress s)))
+    × Ready (a .p .head .variables) (r .progress) (now (a .terms)) (now (a .weights)) (now (a .counts)))
+refuse s reason r e =
+    let a = s .args in
+    turned-down (a .p) (now (a .terms)) (now (a .weights)) (now (a .counts)) reason r e (a .p .head .variables) (s .pre .1) (onClaim (bytes s) (progress s))
 
 -- where nothing is under way
 abbrev start : tie.After-struct-known → tie.Start
@@ -90,8 +107,7 @@ returns c =
     let a = s .args in
     let p = a .p in
     let k = sym (c .before .before .is-idle .ensures) ∙ not-true (c .before .before .is-idle .result) (c .before .if1 .taken) in
-    turned-down p (now (a .terms)) (now (a .weights)) (now (a .counts)) Misplaced (c .refused .result) (c .refused .ensures) (p .head .variables) (s .pre .1)
-    (onClaim (bytes s) (progressOf p (now (a .terms)) (now (a .weights)) (now (a .counts))))
+    refuse s Misplaced (c .refused .result) (c .refused .ensures)
     (claim-misplaced (bytes s) p (now (a .terms)) (now (a .weights)) (now (a .counts)) k)
 
 add-read-amount : tie.Need-add-read-amount
@@ -116,8 +132,7 @@ returns-2 c =
     let a = s .args in
     let p = a .p in
     let d = sym (c .before .before .before .read-amount .ensures) ∙ c .before .enum-told .given .1 in
-    turned-down p (now (a .terms)) (now (a .weights)) (now (a .counts)) CutShort (c .refused2 .result) (c .refused2 .ensures) (p .head .variables) (s .pre .1)
-    (onClaim (bytes s) (progressOf p (now (a .terms)) (now (a .weights)) (now (a .counts))))
+    refuse s CutShort (c .refused2 .result) (c .refused2 .ensures)
     (claim-cut (bytes s) p (now (a .terms)) (now (a .weights)) (now (a .counts)) (idle k) d)
 
 claim-fits-requires : tie.Need-claim-fits-requires
@@ -133,8 +148,7 @@ returns-3 c =
     let a = s .args in
     let p = a .p in
     let d = sym (tested f) ∙ not-true (f .claim-fits .result) (c .before .if2 .taken) in
-    turned-down p (now (a .terms)) (now (a .weights)) (now (a .counts)) OutOfRange (c .refused3 .result) (c .refused3 .ensures) (p .head .variables) (s .pre .1)
-    (onClaim (bytes s) (progressOf p (now (a .terms)) (now (a .weights)) (now (a .counts))))
+    refuse s OutOfRange (c .refused3 .result) (c .refused3 .ensures)
     (claim-range (bytes s) p (now (a .terms)) (now (a .weights)) (now (a .counts)) (idle (f .before .before .before .before .before)) (claim f) (read f) d)
 
 cast-none-negative : tie.Need-cast-none-negative
@@ -154,8 +168,7 @@ returns-4 c =
     let a = s .args in
     let p = a .p in
     let d = signs g ∙ ap not (not-true (g .none-negative .result) (c .before .if3 .taken)) in
-    turned-down p (now (a .terms)) (now (a .weights)) (now (a .counts)) NegativeLine (c .refused4 .result) (c .refused4 .ensures) (p .head .variables) (s .pre .1)
-    (onClaim (bytes s) (progressOf p (now (a .terms)) (now (a .weights)) (now (a .counts))))
+    refuse s NegativeLine (c .refused4 .result) (c .refused4 .ensures)
     (claim-negative (bytes s) p (now (a .terms)) (now (a .weights)) (now (a .counts)) (idle (f .before .before .before .before .before)) (claim f) (read f) (fits g) d)
 
 slice-aggregate-weight-of : tie.Need-slice-aggregate-weight-of
@@ -176,8 +189,7 @@ returns-5 c =
     let a = s .args in
     let p = a .p in
     let l : ltZ (weight (linesOf (memory s)) (0 ∷ [])) (claim f) ≡ true = sym (ap₂ ltZ (weighed w) (claim-is f)) ∙ c .before .if4 .taken in
-    turned-down p (now (a .terms)) (now (a .weights)) (now (a .counts)) ClaimTooHigh (c .refused5 .result) (c .refused5 .ensures) (p .head .variables) (s .pre .1)
-    (onClaim (bytes s) (progressOf p (now (a .terms)) (now (a .weights)) (now (a .counts))))
+    refuse s ClaimTooHigh (c .refused5 .result) (c .refused5 .ensures)
     (claim-high (bytes s) p (now (a .terms)) (now (a .weights)) (now (a .counts)) (idle (f .before .before .before .before .before)) (claim f) (read f) (fits g) (none w) (lower (weight (linesOf (memory s)) (0 ∷ [])) (claim f) l))
 
 closed-with-requires : tie.Need-closed-with-requires

@@ -1,5 +1,5 @@
 -- `fold` meets its contract: the verdict of the replacement says what is left.
-use mathlib.Core.Path.{_≡_, sym, ap, subst, _∙_}
+use mathlib.Core.Path.{_≡_, subst}
 use mathlib.Core.List.{List, [], _∷_}
 use native.Mathlib.Omega.{arith}
 use mir.Facts.{toZ-ofZ}
@@ -10,13 +10,10 @@ use Rattle.configuration.specs.Configuration.{Line, line, add}
 use Rattle.configuration.specs.Memory.{Memory, memoryOf, linesOf}
 use Rattle.configuration.specs.Replacement.{within, replacementOf, replaced}
 use Rattle.configuration.specs.declared.Verdict.{Verdict}
-use Rattle.walk.specs.Walk.{Walked, stopOf}
-use Rattle.problem.specs.Problem.{State}
-use Rattle.problem.specs.Held.{progressOf, Ready}
-use Rattle.problem.specs.declared.Step.{Step}
-use Rattle.problem.proofs.Folds.{small-weight, Answered, judged, kept-step, kept-ready, done-step, done-ready}
+use Rattle.configuration.specs.ReplacementLaws.{Says}
+use Rattle.refusal.specs.declared.Reason.the-variants.{TooManyLines, WeightTooLarge}
+use Rattle.problem.proofs.Folds.{small-weight, judged, kept, done}
 use Rattle.problem.proofs.entry.fold.Statement.{statement}
-use Rattle.walk.specs.Walk as W
 use Rattle.problem.proofs.entry.fold.Tie as tie
 
 abbrev start : tie.After-add → tie.Start
@@ -31,22 +28,15 @@ new s = add (termsOf (s .args .f)) (s .args .weight) (linesOf (memory s))
 abbrev last : tie.After-add → Memory
 last c = let r = c .add in memoryOf (r .result .head) (r .last .1 .0) (r .last .1 .1 .0) (r .last .1 .1 .1 .0)
 
--- what the answer is with the areas that are left, and that they are ready for the next record
-abbrev left-by : tie.After-add → Step → Walked (W.Progress State)
-left-by c x = let r = c .add in record { reached = progressOf (x .progress) (r .last .1 .0) (r .last .1 .1 .0) (r .last .1 .1 .1 .0); stop = stopOf (x .turn) }
-
-abbrev ready-by : tie.After-add → Step → Type 0
-ready-by c x = let r = c .add in Ready (x .progress) (r .last .1 .0) (r .last .1 .1 .0) (r .last .1 .1 .1 .0)
-
 replacing : (c : tie.After-add) → replacementOf (last c) (c .add .result .verdict) ≡ replaced (line (termsOf (start c .args .f)) (start c .args .weight) ∷ []) (memory (start c))
 replacing c = rw (toZ-ofZ (start c .fits .weight)) at (c .add .ensures)
 
-told : (c : tie.After-add) (v : Verdict) → c .add .result .verdict ≡ v → Answered (memory (start c)) (last c) (new (start c)) (within (new (start c))) v
+told : (c : tie.After-add) (v : Verdict) → c .add .result .verdict ≡ v → Says (memory (start c)) (last c) (new (start c)) (within (new (start c))) v
 told c v e =
     let s = start c in
     let a = s .args in
     let r = c .add in
-    subst (Answered (memory s) (last c) (new s) (within (new s))) e
+    subst (Says (memory s) (last c) (new s) (within (new s))) e
     (judged (a .p) (now (a .terms)) (now (a .weights)) (now (a .counts)) (s .pre .0) (termsOf (a .f)) (a .weight) (r .result .head) (r .last .1 .0) (r .last .1 .1 .0)
     (r .last .1 .1 .1 .0)
     (r .result .verdict) (replacing c) (a .size) (a .work))
@@ -94,15 +84,8 @@ returns c =
     let s = start k in
     let a = s .args in
     let r = k .add in
-    let d = told k _ (c .before .enum-told .given .1) in (
-      ap (left-by k) (c .accepted .ensures)
-          ∙ (done-step (a .p) (now (a .terms)) (now (a .weights)) (now (a .counts)) (s .pre .0) (termsOf (a .f)) (a .weight) (r .result .head) (r .last .1 .0)
-          (r .last .1 .1 .0) (r .last .1 .1 .1 .0)
-          (r .result .verdict) (replacing k) (a .size) (a .work) (s .pre .1) (s .pre .2) (s .pre .4) d),
-      subst (ready-by k) (sym (c .accepted .ensures)) (done-ready (a .p) (now (a .terms)) (now (a .weights)) (now (a .counts)) (s .pre .0) (termsOf (a .f)) (a .weight)
-          (r .result .head) (r .last .1 .0) (r .last .1 .1 .0) (r .last .1 .1 .1 .0)
-          (r .result .verdict) (replacing k) (a .size) (a .work) (s .pre .1) (s .pre .2) (s .pre .4) d),
-    )
+    done (a .p) (now (a .terms)) (now (a .weights)) (now (a .counts)) (s .pre .0) (termsOf (a .f)) (a .weight) (r .result .head) (r .last .1 .0) (r .last .1 .1 .0)
+    (r .last .1 .1 .1 .0) (r .result .verdict) (replacing k) (a .size) (a .work) (s .pre .1) (s .pre .2) (s .pre .4) (told k _ (c .before .enum-told .given .1)) (c .accepted .result) (c .accepted .ensures)
 
 same-length-4 : tie.Need-same-length-4
 same-length-4 c = search needs
@@ -119,15 +102,8 @@ returns-2 c =
     let s = start k in
     let a = s .args in
     let r = k .add in
-    let d = told k _ (c .before .enum-told2 .given .1) in (
-      ap (left-by k) (c .refused .ensures)
-          ∙ (kept-step (a .p) (now (a .terms)) (now (a .weights)) (now (a .counts)) (s .pre .0) (termsOf (a .f)) (a .weight) (r .result .head) (r .last .1 .0)
-          (r .last .1 .1 .0) (r .last .1 .1 .1 .0)
-          (r .result .verdict) (replacing k) (a .size) (a .work) 10 d),
-      subst (ready-by k) (sym (c .refused .ensures)) (kept-ready (a .p) (now (a .terms)) (now (a .weights)) (now (a .counts)) (s .pre .0) (termsOf (a .f)) (a .weight)
-          (r .result .head) (r .last .1 .0) (r .last .1 .1 .0) (r .last .1 .1 .1 .0)
-          (r .result .verdict) (replacing k) (a .size) (a .work) 10 d),
-    )
+    kept (a .p) (now (a .terms)) (now (a .weights)) (now (a .counts)) (s .pre .0) (termsOf (a .f)) (a .weight) (r .result .head) (r .last .1 .0) (r .last .1 .1 .0)
+    (r .last .1 .1 .1 .0) (r .result .verdict) (replacing k) (a .size) (a .work) TooManyLines (c .refused .result) (c .refused .ensures) (told k _ (c .before .enum-told2 .given .1))
 
 same-length-7 : tie.Need-same-length-7
 same-length-7 c = search needs
@@ -144,15 +120,8 @@ returns-3 c =
     let s = start k in
     let a = s .args in
     let r = k .add in
-    let d = told k _ (c .before .enum-told3 .given .1) in (
-      ap (left-by k) (c .refused2 .ensures)
-          ∙ (kept-step (a .p) (now (a .terms)) (now (a .weights)) (now (a .counts)) (s .pre .0) (termsOf (a .f)) (a .weight) (r .result .head) (r .last .1 .0)
-          (r .last .1 .1 .0) (r .last .1 .1 .1 .0)
-          (r .result .verdict) (replacing k) (a .size) (a .work) 11 d),
-      subst (ready-by k) (sym (c .refused2 .ensures)) (kept-ready (a .p) (now (a .terms)) (now (a .weights)) (now (a .counts)) (s .pre .0) (termsOf (a .f)) (a .weight)
-          (r .result .head) (r .last .1 .0) (r .last .1 .1 .0) (r .last .1 .1 .1 .0)
-          (r .result .verdict) (replacing k) (a .size) (a .work) 11 d),
-    )
+    kept (a .p) (now (a .terms)) (now (a .weights)) (now (a .counts)) (s .pre .0) (termsOf (a .f)) (a .weight) (r .result .head) (r .last .1 .0) (r .last .1 .1 .0)
+    (r .last .1 .1 .1 .0) (r .result .verdict) (replacing k) (a .size) (a .work) WeightTooLarge (c .refused2 .result) (c .refused2 .ensures) (told k _ (c .before .enum-told3 .given .1))
 
 pub fold-spec : {M : Type 1} → statement M
 fold-spec =

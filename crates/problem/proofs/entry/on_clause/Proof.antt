@@ -15,12 +15,16 @@ use borrow.Author.Tests.{not-true, not-false, ltb-true}
 use Rattle.run.specs.Boolean.{of-true}
 use Rattle.polynomial.specs.Polynomial.{termsOf, clauseOf}
 use Rattle.polynomial.specs.declared.Outcome.{Outcome}
-use Rattle.walk.specs.Walk.{after}
+use Rattle.refusal.specs.Refusal.{numberOf}
+use Rattle.refusal.specs.declared.Reason.{Reason}
+use Rattle.walk.specs.declared.Turn.the-variants.{Refused}
+use Rattle.problem.specs.declared.Step.{Step}
+use Rattle.walk.specs.Walk.{turnedDown, after}
 use Rattle.problem.specs.Problem.{State, weightFits, onClause}
 use Rattle.problem.specs.ProblemLaws.{clause-polynomial}
 use Rattle.problem.specs.Held.{progressOf}
 use Rattle.problem.specs.declared.Progress.{Progress}
-use Rattle.problem.proofs.Next.{turned-down}
+use Rattle.problem.proofs.Next.{left-by, ready-by, turned-down}
 use Rattle.record.specs.Record.{clauseIn}
 use Rattle.record.specs.declared.Clause.the-variants.{Whole}
 use Rattle.problem.proofs.Records.{clause-early, clause-short, plain-unknown, negated-unknown, clause-out, clause-long, clause-in, outcome-terms}
@@ -31,6 +35,13 @@ use Rattle.problem.proofs.entry.on_clause.Tie as tie
 
 abbrev progress : tie.Start → W.Progress State
 progress s = progressOf (s .args .p) (now (s .args .terms)) (now (s .args .weights)) (now (s .args .counts))
+
+-- a refusal, for the reason that the definition has
+refuse : (s : tie.Start) (reason : Reason) (r : Step) → r ≡ record { progress = s .args .p; turn = Refused reason } → turnedDown (numberOf reason) ≡ onClause (now (s .args .bytes)) (progress s)
+    → (let a = s .args in
+    (left-by (now (a .terms)) (now (a .weights)) (now (a .counts)) r ≡ after (progress s) (onClause (now (a .bytes)) (progress s)))
+    × ready-by (now (a .terms)) (now (a .weights)) (now (a .counts)) r)
+refuse s reason r = let a = s .args in turned-down (now (a .terms)) (now (a .weights)) (now (a .counts)) (a .p) (s .pre .1) r reason (onClause (now (a .bytes)) (progress s))
 
 -- where the weight is tested
 abbrev start : tie.After-weight-fits → tie.Start
@@ -76,9 +87,7 @@ refused-requires c κs = search needs
 returns : tie.Need-returns
 returns c =
     let s = c .before .before .before .before .before .before in
-    let p = s .args .p in
-    turned-down (now (s .args .terms)) (now (s .args .weights)) (now (s .args .counts)) p (s .pre .1) (c .refused .result) R.Misplaced
-    (onClause (now (s .args .bytes)) (progress s)) (c .refused .ensures)
+    refuse s R.Misplaced (c .refused .result) (c .refused .ensures)
     (clause-early (now (s .args .bytes)) (progress s) (not-true _ (c .before .if1 .taken)))
 
 add-read-clause : tie.Need-add-read-clause
@@ -99,9 +108,7 @@ refused-requires-2 c κs = search needs
 returns-2 : tie.Need-returns-2
 returns-2 c =
     let s = c .before .before .before .before .before .before .before .before .before .before in
-    let p = s .args .p in
-    turned-down (now (s .args .terms)) (now (s .args .weights)) (now (s .args .counts)) p (s .pre .1) (c .refused2 .result) R.CutShort
-    (onClause (now (s .args .bytes)) (progress s)) (c .refused2 .ensures)
+    refuse s R.CutShort (c .refused2 .result) (c .refused2 .ensures)
     (clause-short (now (s .args .bytes)) (progress s) (not-false _ (c .before .before .before .before .before .if1 .left))
     (sym (c .before .before .before .read-clause .ensures) ∙ c .before .enum-told .given .1))
 
@@ -114,9 +121,7 @@ refused-requires-3 c κs = search needs
 returns-3 : tie.Need-returns-3
 returns-3 c =
     let s = c .before .before .before .before .before .before .before .before .before .before .before .before .before .before in
-    let p = s .args .p in
-    turned-down (now (s .args .terms)) (now (s .args .weights)) (now (s .args .counts)) p (s .pre .1) (c .refused3 .result) R.UnknownVariable
-    (onClause (now (s .args .bytes)) (progress s)) (c .refused3 .ensures)
+    refuse s R.UnknownVariable (c .refused3 .result) (c .refused3 .ensures)
     (plain-unknown (now (s .args .bytes)) (progress s) (not-false _ (c .before .before .before .before .before .before .before .before .before .if1 .left)) _ _ _
     (sym (c .before .before .before .before .before .before .before .read-clause .ensures) ∙ c .before .before .before .before .before .plain .given .1)
     (sym (c .before .before .is-term .ensures) ∙ not-true _ (c .before .if2 .taken)))
@@ -131,8 +136,7 @@ returns-4 : tie.Need-returns-4
 returns-4 c =
     let k = c .before .before .before .before .before .before .before in
     let s = k .before .before .before .before .before .before .before .before .before in
-    turned-down (now (s .args .terms)) (now (s .args .weights)) (now (s .args .counts)) (s .args .p) (s .pre .1) (c .refused4 .result) R.UnknownVariable
-    (onClause (now (s .args .bytes)) (progress s)) (c .refused4 .ensures)
+    refuse s R.UnknownVariable (c .refused4 .result) (c .refused4 .ensures)
     (negated-unknown (now (s .args .bytes)) (progress s) (not-false _ (k .before .before .before .before .if1 .left)) _ _ _
     (sym (k .before .before .read-clause .ensures) ∙ k .plain .given .1)
     (sym (c .before .before .before .before .is-term .ensures) ∙ not-false _ (c .before .before .before .if2 .left))
@@ -148,9 +152,7 @@ returns-5 : tie.Need-returns-5
 returns-5 c =
     let k = c .before .before in
     let s = start k in
-    let p = s .args .p in
-    turned-down (now (s .args .terms)) (now (s .args .weights)) (now (s .args .counts)) p (s .pre .1) (c .refused5 .result) R.OutOfRange
-    (onClause (now (s .args .bytes)) (progress s)) (c .refused5 .ensures)
+    refuse s R.OutOfRange (c .refused5 .result) (c .refused5 .ensures)
     (clause-out (now (s .args .bytes)) (progress s) (begun k) (plain k) (negated k) (weight k) (read k) (plain-known k) (negated-known k)
     (sym (fits k) ∙ not-true _ (c .before .if4 .taken)))
 
@@ -166,9 +168,7 @@ returns-6 c =
     let s = start k in
     let r = c .before .before .before .clause in
     let n : r .result .length ≡ length (clauseOf (plain k) (negated k)) = ap (λ (o : Outcome). o .length) (r .ensures) in
-    let p = s .args .p in
-    turned-down (now (s .args .terms)) (now (s .args .weights)) (now (s .args .counts)) p (s .pre .1) (c .refused6 .result) R.TooManyTerms
-    (onClause (now (s .args .bytes)) (progress s)) (c .refused6 .ensures)
+    refuse s R.TooManyTerms (c .refused6 .result) (c .refused6 .ensures)
     (clause-long (now (s .args .bytes)) (progress s) (begun k) (plain k) (negated k) (weight k) (read k) (plain-known k) (negated-known k)
     (sym (fits k) ∙ not-false _ (c .before .before .before .before .if4 .left)) (rw n at (c .before .if5 .taken)))
 
