@@ -1,11 +1,13 @@
 -- Texts that are written into an area one behind the other: what stands, and what is still to be written.
 use mathlib.Core.Path.{_≡_, refl, sym, ap, ap₂, _∙_, subst}
-use mathlib.Core.List.{List, [], _∷_, _++_, append-assoc}
-use Prim.Native.Nat.{ℕ, _+_, _≤_, _<_}
+use mathlib.Core.List.{List, [], _∷_, _++_, append-assoc, append-nil}
+use Prim.Native.Nat.{ℕ, _+_, _-_, _≤_, _<_}
 use native.Mathlib.Numerals.{add-one, unary-clauses}
 use native.Mathlib.Omega.{arith}
-use lib.ListN.{length, take, drop, set, length-append, length-drop, take-append-drop}
-use lib.Seq.{length-take-le, take-at, drop-append-add, drop-drop, set-split}
+use native.Mathlib.Nat.{zero-add}
+use lib.ListN.{length, take, drop, set, length-append, length-drop, take-append-drop, drop-of-length-le}
+use lib.Seq.{take-all, length-take-le, take-at, drop-append-add, drop-drop, set-split}
+use borrow.Rule.Slice.PartMut.{midOf, postOf, putMid}
 use Rattle.listing.specs.Writing.{overwritten}
 
 -- ---- one text
@@ -40,6 +42,18 @@ behind a at x y h =
     ∙ append-assoc (take at a) x (y ++ drop (n + length y) a)
     ∙ ap (λ (z : List ℕ). take at a ++ z) (sym (append-assoc x y (drop (n + length y) a)))
     ∙ ap (λ (k : ℕ). take at a ++ ((x ++ y) ++ drop k a)) (sym s)
+
+-- writing a text at the front of the part from a place on is writing it at that place
+pub part-written : (a : List ℕ) (at : ℕ) (x ys : List ℕ) → at ≤ length a → ys ≡ overwritten (midOf at (length a - at) a) 0 x
+    → putMid at (length a - at) a ys ≡ overwritten a at x
+part-written a at x ys h e =
+    let n : ℕ = length a - at in
+    let l : length (drop at a) ≡ n = length-drop at a in
+    let mid : midOf at n a ≡ drop at a = take-all n (drop at a) (omega arith) in
+    let post : postOf at n a ≡ [] = drop-of-length-le (drop at a) {i = n} (omega arith) in
+    let y : ys ≡ x ++ drop (at + length x) a =
+    e ∙ ap (λ (z : List ℕ). overwritten z 0 x) mid ∙ ap (λ (k : ℕ). x ++ drop k (drop at a)) (zero-add (length x)) ∙ ap (λ (z : List ℕ). x ++ z) (drop-drop (length x) at a) in
+    ap₂ (λ (z t : List ℕ). take at a ++ (z ++ t)) y post ∙ ap (λ (z : List ℕ). take at a ++ z) (append-nil (x ++ drop (at + length x) a))
 
 -- ---- of a text that is to stand in an area a from a place on, the rest is still to be written at the end of what stands in b
 pub record Still (a : List ℕ) (at : ℕ) (whole b : List ℕ) (end : ℕ) (rest : List ℕ) : Type 0 where

@@ -1,7 +1,8 @@
 -- Laws of the listing: how long its texts are, that the texts of its numbers one after the other are the whole, and document 01's case.
-use mathlib.Core.Path.{_≡_, refl, ap, ap₂}
+use mathlib.Core.Path.{_≡_, refl, ap, ap₂, sym, _∙_}
 use mathlib.Core.List.{List, [], _∷_, _++_, map}
-use Prim.Native.Nat.{ℕ, zero, suc, _+_, _*_, _/_, _%_, _^_, _≤_, _<_}
+use Prim.Native.Nat.{ℕ, zero, suc, _+_, _-_, _*_, _/_, _%_, _^_, _≤_, _<_}
+use native.Mathlib.Numerals.{add-one}
 use native.Mathlib.Omega.{arith}
 use lib.Dec.{T, ltb, eqb, nltb→le}
 use lib.IntN.{ℤ, pos, negsuc}
@@ -10,7 +11,7 @@ use lib.Seq.{drop-cons}
 use Rattle.run.specs.Boolean.{cond-ind}
 use Rattle.configuration.specs.Configuration.{Line, line}
 use Rattle.configuration.specs.Memory.{Memory, linesOf, wellFormed}
-use Rattle.configuration.specs.MemoryLaws.{well-formed, Short, formed-parts, fits-short}
+use Rattle.configuration.specs.MemoryLaws.{well-formed, Short, formed-parts, fits-short, length-lines}
 use Rattle.listing.specs.Listing.{decimalIn, decimal, weightText, joined, namesFrom, termText, lineText, headerText, textOf, textsFrom, lineTexts, listingOf, listed}
 
 -- ---- numbers: never more than 20 digits, and at most k + 1 below 10^(k + 1)
@@ -113,6 +114,37 @@ texts-lines (suc k) i n L e =
 pub whole-listing : (n : ℕ) (L : List Line) → textsFrom (suc (length L)) 0 n L ≡ listingOf n L
 unfolding textsFrom textOf listingOf
 whole-listing n L = ap (λ (s : List ℕ). headerText n (length L) ++ s) (texts-lines (length L) 0 n L (omega arith))
+
+-- one text, where there are k + 1 in all, and none
+pub texts-step : (k i n : ℕ) (L : List Line) → i ≤ k → textsFrom (suc k - i) i n L ≡ textOf i n L ++ textsFrom (suc k - (i + 1)) (i + 1) n L
+unfolding textsFrom
+texts-step k i n L h =
+    let e : suc k - i ≡ suc (suc k - (i + 1)) = omega arith in
+    rw (e, add-one i)
+
+pub texts-over : (k i n : ℕ) (L : List Line) → k < i → textsFrom (suc k - i) i n L ≡ []
+unfolding textsFrom
+texts-over k i n L h = let e : suc k - i ≡ 0 = omega arith in rw e
+
+texts-short : (k i : ℕ) (m : Memory) → T (wellFormed m) → length (textsFrom k i (m .variables) (linesOf m)) ≤ k * 8448
+unfolding textsFrom
+texts-short zero i m h = omega arith
+texts-short (suc k) i m h =
+    rw (length-append (textOf i (m .variables) (linesOf m)) (textsFrom k (suc i) (m .variables) (linesOf m)))
+    (omega (arith, text-short i m h, texts-short k (suc i) m h))
+
+-- a well-formed configuration has at most 128 lines
+pub lines-most : (m : Memory) → T (wellFormed m) → m .lines ≤ 128
+lines-most m h = formed-parts 128 m (well-formed m h) .room
+
+-- the texts of a memory's numbers are its listing, which has at most 129 texts of at most 8448 bytes
+pub memory-listing : (m : Memory) → listed m ≡ textsFrom (suc (m .lines)) 0 (m .variables) (linesOf m)
+memory-listing m =
+    sym (whole-listing (m .variables) (linesOf m))
+    ∙ ap (λ (k : ℕ). textsFrom (suc k) 0 (m .variables) (linesOf m)) (length-lines (m .lines) (m .terms) (m .weights) (m .counts))
+
+pub listing-short : (m : Memory) → T (wellFormed m) → length (listed m) ≤ 1089792
+listing-short m h = rw (memory-listing m) (omega (arith, texts-short (suc (m .lines)) 0 m h, lines-most m h))
 
 -- the listing depends on the variables and the lines alone
 pub equal-listings : (m k : Memory) → m .variables ≡ k .variables → linesOf m ≡ linesOf k → listed m ≡ listed k

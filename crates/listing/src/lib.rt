@@ -11,16 +11,13 @@ use text::put_decimal;
 use text::put_terms;
 use text::put_weight;
 ghost use mathlib.Core.Path.{_≡_};
-ghost use Prim.Native.Nat.{_≤_};
+ghost use Prim.Native.Nat.{_+_, _≤_};
 ghost use lib.Dec.{T};
 ghost use lib.ListN.{length};
 ghost use Rattle.configuration.specs.Configuration.{line};
 ghost use Rattle.configuration.specs.Memory.{memoryOf, linesIn, wellFormed};
-ghost use Rattle.listing.specs.Listing.{headerText, lineText, textOf, toldOf, writeLine};
+ghost use Rattle.listing.specs.Listing.{headerText, lineText, textOf, listed, toldOf, writeLine};
 ghost use Rattle.listing.specs.Writing.{overwritten};
-
-// Room for every line of a well-formed configuration.
-pub const ROOM: usize = 8448;
 
 // What writing a line answers: the length of its text. A refusal names record 0, and its reason.
 pub enum Answer {
@@ -74,6 +71,32 @@ pub fn put_text(
     let i = number - 1;
     let count = counts[i] as usize;
     put_line(out, row(terms, i, count), weights[i])
+}
+
+// The whole listing, from a place in the bytes on, line by line. It is for the report, whose configurations are known to be
+// well formed.
+pub fn put_listing(
+    out: &mut [u8],
+    at: usize,
+    head: Head,
+    terms: &[u32],
+    weights: &[i64],
+    counts: &[u32],
+) -> usize
+    requires { ⌜ T (wellFormed (memoryOf head (now terms) (now weights) (now counts))) × (at + 1089792 ≤ length (now out)) ⌝ }
+    ensures end { λ r. ⌜ r ≡ at + length (listed (memoryOf head (now (terms .entry)) (now (weights .entry)) (now (counts .entry)))) ⌝ }
+    ensures text { λ _. ⌜ now (out .exit) ≡ overwritten (now (out .entry)) at (listed (memoryOf head (now (terms .entry)) (now (weights .entry)) (now (counts .entry)))) ⌝ }
+    ensures room { λ r. ⌜ r ≤ at + 1089792 ⌝ }
+{
+    let lines = head.lines as usize;
+    let mut end = at;
+    let mut number: usize = 0;
+    while number <= lines {
+        let size = put_text(&mut out[end..], head, terms, weights, counts, number);
+        end += size;
+        number += 1;
+    }
+    end
 }
 
 // Writes the line of a number at the front of a lent area, from lent areas of any lengths and contents.

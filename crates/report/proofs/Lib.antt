@@ -1,2 +1,4 @@
 pub mod Outputs
+pub mod Reports
 pub mod Texts
+pub mod Files

@@ -2,21 +2,26 @@
 use mathlib.Core.Path.{_≡_, refl, sym, ap, ap₂, _∙_}
 use mathlib.Core.List.{List, [], _∷_, _++_}
 use mathlib.Core.Bool.{Bool, true, false}
-use Prim.Native.Nat.{ℕ, zero, suc, _+_, _-_, _/_, _%_, _^_, _≤_, _<_}
+use Prim.Native.Nat.{ℕ, zero, suc, _+_, _-_, _/_, _%_, _^_, _≤_, _<_, min}
 use native.Mathlib.Nat.{zero-add, zero-lt-suc, pow-le-pow-right}
 use native.Mathlib.Numerals.{add-one}
 use native.Mathlib.Omega.{arith}
-use lib.Dec.{ltb}
+use lib.Dec.{leb, ltb}
 use lib.IntN.{ℤ}
 use lib.ListN.{length, take, drop, replicate, length-append, length-replicate, replicate-append-replicate}
-use lib.Seq.{drop-append-seam}
-use borrow.Author.Tests.{ltb-true, ltb-false}
+use lib.Seq.{take-all, take-append-seam, drop-append-seam}
+use borrow.Author.Tests.{leb-true, leb-false, ltb-true, ltb-false}
 use Rattle.io.specs.Digits.{digits, glyph, Fewest}
 use Rattle.listing.specs.Listing.{decimal, weightText}
 use Rattle.listing.specs.ListingLaws.{decimal-short, decimal-digits, weight-short}
 use Rattle.listing.specs.Writing.{overwritten}
 use Rattle.listing.proofs.Names.{regroup}
-use Rattle.report.specs.Report.{refusalText, confirmedText, codeText, textOf}
+use Rattle.report.specs.Report.{refusalText, confirmedText, verdictText, codeText, textOf}
+use Rattle.refusal.specs.Refusal.{numberOf}
+use Rattle.refusal.specs.RefusalLaws.{number-most}
+use Rattle.derivation.specs.Derivation as D
+use Rattle.derivation.specs.declared.Answer as DA
+use Rattle.derivation.specs.declared.Answer.the-variants as DV
 
 -- ---- the words
 abbrev pub word-refused : List ℕ
@@ -91,3 +96,24 @@ by-value x bytes size h e =
     let d : drop (0 + n) (replicate {A = ℕ} 64 0) ≡ replicate (64 - n) 0 =
     ap₂ (λ (i j : ℕ). drop i (replicate {A = ℕ} j 0)) (zero-add n) (sym k) ∙ zeros n (64 - n) in
     ap₂ (λ (b : List ℕ) (i : ℕ). record { bytes = b; size = i }) (e .1 ∙ ap (λ (t : List ℕ). x ++ t) d) (e .0)
+
+-- ---- a text by value has 64 places: what is held of it is its front, and that is the text
+pub held-part : (n k : ℕ) (l : List ℕ) → k ≡ min n 64 → length l ≡ 64 → take k l ≡ take n l
+held-part n k l e h = go (leb n 64) refl
+  where
+    go : (b : Bool) → leb n 64 ≡ b → take k l ≡ take n l
+    go true t =
+        let i : n ≤ 64 = leb-true n 64 t in
+        let j : k ≡ n = omega arith in
+        ap (λ (x : ℕ). take x l) j
+    go false t =
+        let i : 64 < n = leb-false n 64 t in
+        let j : k ≡ 64 = omega arith in
+        take-all k l (omega arith) ∙ sym (take-all n l (omega arith))
+
+pub text-front : (x : List ℕ) → (let t = textOf x in take (t .size) (t .bytes)) ≡ x
+text-front x = take-append-seam x (replicate (64 - length x) 0)
+
+pub verdict-short : (a : DA.Answer) → length (verdictText (D.toldOf a)) ≤ 64
+verdict-short (DV.Confirmed w d) = omega (arith, confirmed-short w d)
+verdict-short (DV.Refused k reason) = omega (arith, refusal-short (numberOf reason) k (number-most reason))

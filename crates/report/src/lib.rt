@@ -1,5 +1,7 @@
 // The lines that the programs print besides the listings.
+use derivation::check_derivation;
 use listing::code::code_of;
+use listing::put_listing;
 use listing::text::put_bytes;
 use listing::text::put_decimal;
 use listing::text::put_weight;
@@ -8,12 +10,18 @@ use refusal::Reason;
 use refusal::number;
 ghost use mathlib.Core.Path.{_≡_};
 ghost use Prim.Native.Nat.{_+_, _≤_, min};
-ghost use lib.ListN.{length};
+ghost use lib.ListN.{length, take};
 ghost use Rattle.problem.specs.Problem.{toldOf as toldOfFiling};
 ghost use Rattle.derivation.specs.Derivation.{toldOf};
 ghost use Rattle.refusal.specs.Refusal.{numberOf};
 ghost use Rattle.listing.specs.Writing.{overwritten};
-ghost use Rattle.report.specs.Report.{refusalText, confirmedText, filingText, verdictText, codeText, codeOutput, textOf};
+ghost use Rattle.report.specs.Report.{refusalText, confirmedText, filingText, verdictText, codeText, codeOutput, checkOutput, codeOfFile, checkOfFiles, toldOf as toldOfReport, writeReport, textOf};
+
+// What writing a whole report answers: its length, or that the area could be too short.
+pub enum Report {
+    Written(usize),
+    TooShort,
+}
 
 // A text by value, from the front of the bytes; unused places are zero.
 pub struct Text {
@@ -108,4 +116,76 @@ pub fn problem_line(bytes: &[u8]) -> Text
         problem::Answer::Filed => code_line(code_of(head, &terms, &weights, &counts)),
         _ => filing_line(answer),
     }
+}
+
+// A line, from a place in the bytes on.
+fn put_line(out: &mut [u8], at: usize, line: Text) -> usize
+    requires { ⌜ at + 64 ≤ length (now out) ⌝ }
+    ensures end { λ r. ⌜ r ≡ at + length (take (line .size) (line .bytes)) ⌝ }
+    ensures text { λ _. ⌜ now (out .exit) ≡ overwritten (now (out .entry)) at (take (line .size) (line .bytes)) ⌝ }
+{
+    let size = held(line);
+    let bytes = line.bytes;
+    put_bytes(out, at, &bytes[..size])
+}
+
+// What there is to tell of a problem's and a derivation's bytes, as one text at the front of a lent area: the listing
+// before, the listing after, and the verdict; or what was refused of the problem.
+pub fn check_report(bytes: &[u8], steps: &[u8], out: &mut [u8]) -> Report
+    ensures { λ r. ⌜ record { area = now (out .exit); told = toldOfReport r } ≡ writeReport (checkOutput (now (bytes .entry)) (now (steps .entry))) (now (out .entry)) ⌝ }
+{
+    if out.len() < 2179648 {
+        return Report::TooShort;
+    }
+    let mut terms = [0u32; 8192];
+    let mut weights = [0i64; 128];
+    let mut counts = [0u32; 128];
+    let filed = file_problem(bytes, &mut terms, &mut weights, &mut counts);
+    let before = filed.head;
+    let filing = filed.answer;
+    if let problem::Answer::Refused(_, _) = filing {
+        return Report::Written(put_line(out, 0, filing_line(filing)));
+    }
+    let middle = put_listing(out, 0, before, &terms, &weights, &counts);
+    let checked = check_derivation(steps, before, &mut terms, &mut weights, &mut counts);
+    let after = checked.head;
+    let answer = checked.answer;
+    let end = put_listing(out, middle, after, &terms, &weights, &counts);
+    Report::Written(put_line(out, end, verdict_line(answer)))
+}
+
+// A text that is there, by value.
+fn said(text: &[u8]) -> Text
+    requires { ⌜ length (now text) ≤ 64 ⌝ }
+    ensures { λ r. ⌜ r ≡ textOf (now (text .entry)) ⌝ }
+{
+    let mut bytes = [0u8; 64];
+    let size = put_bytes(&mut bytes, 0, text);
+    Text { bytes, size }
+}
+
+// What the program `problem_code` prints of its file.
+pub fn code_file(bytes: &[u8]) -> Text
+    ensures { λ r. ⌜ r ≡ textOf (codeOfFile (now (bytes .entry))) ⌝ }
+{
+    if 8192 < bytes.len() {
+        return said(b"problem too long\n");
+    }
+    problem_line(bytes)
+}
+
+// What the program `check_derivation` prints of its files, at the front of a lent area.
+pub fn check_files(bytes: &[u8], steps: &[u8], out: &mut [u8]) -> Report
+    ensures { λ r. ⌜ record { area = now (out .exit); told = toldOfReport r } ≡ writeReport (checkOfFiles (now (bytes .entry)) (now (steps .entry))) (now (out .entry)) ⌝ }
+{
+    if out.len() < 2179648 {
+        return Report::TooShort;
+    }
+    if 8192 < bytes.len() {
+        return Report::Written(put_bytes(out, 0, b"problem too long\n"));
+    }
+    if 8192 < steps.len() {
+        return Report::Written(put_bytes(out, 0, b"steps too long\n"));
+    }
+    check_report(bytes, steps, out)
 }
