@@ -1,0 +1,48 @@
+-- `put_clauses` is sound: it puts one clause after the other, and they come to an end.
+use mathlib.Core.Path.{_≡_}
+use Prim.Native.Nat.{_-_, _≤_}
+use lib.ListN.{length}
+use borrow.Author.Needs.{needs}
+use Rattle.worked_examples.proofs.records.put_clauses.Statement.{statement}
+use Rattle.worked_examples.proofs.records.put_clauses.Tie as tie
+
+abbrev Inv-loop : tie.InvT-loop
+Inv-loop out₀ at plain times end₀ i₀ out end i = (i ≤ times) × (length out ≡ length out₀)
+
+abbrev μ-loop : tie.MeasureT-loop
+μ-loop out₀ at plain times end₀ i₀ out end i = times - i
+
+loop-holds : tie.Need-loop-holds Inv-loop μ-loop
+loop-holds c = search needs
+
+put-clause-requires : tie.Need-put-clause-requires Inv-loop μ-loop
+put-clause-requires c κs = search needs
+
+add-i : tie.Need-add-i Inv-loop μ-loop
+add-i c = search needs
+
+loop-less : tie.Need-loop-less Inv-loop μ-loop
+loop-less c = search needs
+
+loop-again : tie.Need-loop-again Inv-loop μ-loop
+loop-again c = search needs
+
+same-length : tie.Need-same-length Inv-loop μ-loop
+same-length c = search needs
+
+returns : tie.Need-returns Inv-loop μ-loop
+returns c = search needs
+
+pub put-clauses-spec : {M : Type 1} → statement M
+put-clauses-spec =
+    tie.close
+    (tie.spec
+    Inv-loop
+    μ-loop
+    loop-holds
+    put-clause-requires
+    add-i
+    loop-less
+    loop-again
+    same-length
+    returns)

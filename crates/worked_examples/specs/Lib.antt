@@ -1,0 +1,2 @@
+pub mod ExampleLaws
+pub mod DeskTable
