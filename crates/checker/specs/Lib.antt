@@ -1,0 +1,3 @@
+pub mod Checker
+pub mod Records
+pub mod RecordsLaws
