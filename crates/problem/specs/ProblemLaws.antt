@@ -5,17 +5,18 @@ use mathlib.Core.Bool.{Bool, true, false, cond, not, _&&_, Bool·beq, true≢fal
 use mathlib.Core.List.{List, [], _∷_, _++_}
 use Prim.Native.Nat.{ℕ, zero, suc, _+_, _^_, _≤_, _<_}
 use native.Mathlib.Omega.{arith}
-use lib.Dec.{T, leb, leb→le, ltb, ltb→lt, nltb→le, eqb}
+use lib.Signed.{leZ}
+use lib.Dec.{le→leb, T, leb, leb→le, ltb, ltb→lt, nltb→le, eqb}
 use lib.IntN.{ℤ, pos, negsuc, _+ℤ_, +ℤ-idl}
 use lib.ListN.{length, getD}
 use Rattle.run.specs.Boolean.{bool-ext, is-true, of-true, both, cond-ind}
 use Rattle.polynomial.specs.Polynomial.{eval, orderOf, sumOf, clauseOf}
 use Rattle.polynomial.specs.ClauseLaws.{clause-ordered, clause-below}
 use Rattle.configuration.specs.Weight.{isZero, isNegative, share}
-use Rattle.configuration.specs.Configuration.{Line, line, some, same, total, weight, keep, fold, add, addAll, Every, isPolynomial, linesFit, weightsFit, anyNegative}
+use Rattle.configuration.specs.Configuration.{lineFits, Line, line, some, same, total, weight, keep, fold, add, addAll, Every, isPolynomial, linesFit, weightsFit, anyNegative}
 use Rattle.configuration.specs.Sums.{solve, v, _⊞_}
 use Rattle.configuration.specs.FormLaws.{polynomial-below, polynomial-sorted, polynomial-is, none-polynomial, sum-sign}
-use Rattle.configuration.specs.ConfigurationLaws.{order-ind, same-is, same-self, same-none, weight-all, all-ordered, unique, all-fit}
+use Rattle.configuration.specs.ConfigurationLaws.{fit-head, fit-tail, order-ind, same-is, same-self, same-none, weight-all, all-ordered, unique, all-fit}
 use Rattle.configuration.specs.Memory.{Memory, linesOf, sized, wellFormed}
 use Rattle.configuration.specs.MemoryLaws.{every-append, fits-short, there-and-back, image-wellFormed}
 use Rattle.configuration.specs.Replacement.{taken, within}
@@ -233,8 +234,28 @@ filed-lines s m h =
 pub filed-entries : (s : List ℕ) (m : Memory) → T (sized 128 m) → linesOf (fileProblem s m .memory) ≡ addAll (entries s) []
 filed-entries s m h = filed-lines s m h ∙ filing-lines (length s) s (begun empty) (λ z. refl)
 
-pub filed-positive : (s : List ℕ) (m : Memory) → T (sized 128 m) → anyNegative (linesOf (fileProblem s m .memory)) ≡ false
-filed-positive s m h = rw (filed-lines s m h) (filed-sound s .signs)
+-- every weight is at least 1
+abbrev pub Positive : List Line → Type 0
+Positive [] = Unit {0}
+Positive (line f w ∷ L) = T (leZ (pos 1) w) × Positive L
+
+above-zero : (w : ℤ) → isNegative w ≡ false → T (not (isZero w)) → T (leZ (pos 1) w)
+above-zero (pos zero) h k = absurd k
+above-zero (pos (suc n)) h k = le→leb 1 (suc n) (omega arith)
+above-zero (negsuc n) h k = absurd (true≢false h)
+
+all-positive : (n : ℕ) (L : List Line) → T (linesFit n L) → anyNegative L ≡ false → Positive L
+unfolding lineFits
+all-positive n [] h k = tt
+all-positive n (line f w ∷ L) h k =
+    let d = uncons-sign f w L k in
+    let e : T (isPolynomial n f && not (isZero w)) = B.right (some f) (isPolynomial n f && not (isZero w)) (fit-head n (line f w) L h) in
+    (above-zero w (d .0) (B.right (isPolynomial n f) (not (isZero w)) e), all-positive n L (fit-tail n (line f w) L h) (d .1))
+
+pub filed-positive : (s : List ℕ) (m : Memory) → T (sized 128 m) → Positive (linesOf (fileProblem s m .memory))
+filed-positive s m h =
+    let q : State = (readAll filing s empty) .reached .state in
+    rw (filed-lines s m h) (all-positive (q .variables) (q .lines) (filed-sound s .fit) (filed-sound s .signs))
 
 -- ---- polynomials of n variables are one function just where they are the same
 beq-is : (a b : Bool) → T (Bool·beq a b) → a ≡ b
