@@ -1,3 +1,6 @@
 pub mod Checker
 pub mod Records
 pub mod RecordsLaws
+pub mod CostRule
+pub mod OneListing
+pub mod DeskTable

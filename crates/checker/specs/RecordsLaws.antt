@@ -1,12 +1,15 @@
 -- A table of records is two runs of numbers, and two runs of one length are a table of records.
-use mathlib.Core.Path.{_≡_, refl, ap, ap₂}
+use mathlib.Core.Path.{_≡_, refl, sym, ap, ap₂, _∙_}
 use mathlib.Core.List.{List, [], _∷_}
 use Prim.Native.Nat.{ℕ, zero, suc}
 use native.Mathlib.Omega.{arith}
+use lib.Dec.{T}
 use lib.IntN.{ℤ, pos}
 use lib.ListN.{length, getD}
 use Rattle.checker.specs.Records.{weightsIn, countsIn, tableOf, Memory, runsOf, recordsOf}
 use Rattle.checker.specs.declared.Line.{Line}
+use Rattle.configuration.specs.Memory.{wellFormed}
+use Rattle.configuration.specs.MemoryLaws.{well-formed, Formed, formed-parts}
 use Rattle.configuration.specs.Memory as M
 
 pub there : (t : List Line) → tableOf (weightsIn t) (countsIn t) ≡ t
@@ -50,3 +53,9 @@ pub runs-records : (m : M.Memory) → length (m .weights) ≡ length (m .counts)
 runs-records m e =
     ap₂ (λ (ws : List ℤ) (cs : List ℕ). record { variables = m .variables; lines = m .lines; terms = m .terms; weights = ws; counts = cs })
     (back-weights (m .weights) (m .counts) e) (back-counts (m .weights) (m .counts) e)
+
+-- well formed memory has two runs of one length
+pub well-back : (m : M.Memory) → T (wellFormed m) → runsOf (recordsOf m) ≡ m
+well-back m h =
+    let f : Formed 128 m = formed-parts 128 m (well-formed m h) in
+    runs-records m (f .weights-length ∙ sym (f .counts-length))

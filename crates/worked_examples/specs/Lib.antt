@@ -1,2 +1,0 @@
-pub mod ExampleLaws
-pub mod DeskTable
