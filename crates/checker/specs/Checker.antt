@@ -5,6 +5,8 @@ use Prim.Native.Nat.{ℕ}
 use lib.IntN.{ℤ}
 use Rattle.calculus.specs.declared.Rule.{Rule}
 use Rattle.calculus.specs.declared.Mode.{Mode}
+use Rattle.configuration.specs.Memory.{linesOf}
+use Rattle.listing.specs.Code.{codeOf}
 use Rattle.checker.specs.Records.{Memory, runsOf, recordsOf}
 use Rattle.checker.specs.declared.Line.{Line}
 use Rattle.calculus.specs.Calculus as C
@@ -56,3 +58,10 @@ fileIn s m = fileOn (P.fileProblem s (runsOf m))
 -- ---- writing one line into a lent area of bytes
 abbrev pub writeIn : ℕ → Memory → List ℕ → L.Left
 writeIn number m area = L.writeLine number (runsOf m) area
+
+-- ---- the whole listing, and its code
+abbrev pub listedIn : Memory → List ℕ
+listedIn m = L.listed (runsOf m)
+
+abbrev pub codeIn : Memory → ℕ
+codeIn m = codeOf (m .variables) (linesOf (runsOf m))

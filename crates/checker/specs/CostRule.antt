@@ -1,7 +1,6 @@
 -- Demand 3, of the records: nobody who writes derivations can change the cost of a single assignment. One theorem over any list of calls, of any length: a
 -- call is a direct step or a check of a derivation, and each gets the memory that the call before it left. It speaks of `stepIn` and `checkIn`.
 use mathlib.Core.Path.{_≡_, sym, ap, subst, _∙_}
-use mathlib.Core.Bool.{Bool}
 use mathlib.Core.List.{List, [], _∷_}
 use Prim.Native.Nat.{ℕ}
 use lib.Dec.{T}
@@ -9,19 +8,16 @@ use lib.IntN.{ℤ}
 use lib.Signed.{_≤ℤ_}
 use lib.ListN.{take}
 use Rattle.configuration.specs.Configuration.{cost}
-use Rattle.configuration.specs.Memory.{linesOf, wellFormed}
+use Rattle.configuration.specs.Memory.{linesOf}
 use Rattle.derivation.specs.Derivation.{confirmed}
 use Rattle.derivation.specs.CostRule.{Call, stepping, checking}
-use Rattle.checker.specs.Records.{Memory, runsOf, recordsOf}
-use Rattle.checker.specs.RecordsLaws.{well-back}
+use Rattle.checker.specs.Records.{Memory, runsOf, recordsOf, wellFormedIn}
+use Rattle.checker.specs.RecordsLaws.{well-back, well-records}
 use Rattle.checker.specs.Checker.{stepIn, checkIn}
 use Rattle.configuration.specs.Memory as M
 use Rattle.derivation.specs.CostRule as D
 
--- the records hold a configuration, and what an assignment costs in it
-abbrev pub wellFormedIn : Memory → Bool
-wellFormedIn m = wellFormed (runsOf m)
-
+-- what an assignment costs in the configuration that the records hold
 abbrev pub costIn : Memory → ℕ → ℤ
 costIn m α = cost (linesOf (runsOf m)) α
 
@@ -50,13 +46,11 @@ AllSafe start m (c ∷ cs) = Safe start m c × AllSafe start (leftBy c m) cs
 
 -- ---- the rule, by the rule of the two runs: what is well formed there is the runs of its records
 kept : (start : Memory) (x : M.Memory) → D.Kept (runsOf start) x → Kept start (recordsOf x)
-kept start x k =
-    let e : runsOf (recordsOf x) ≡ x = well-back x (k .well) in
-    record {
-      well = subst (λ (y : M.Memory). T (wellFormed y)) (sym e) (k .well);
-      variables = k .variables;
-      costs = λ α. ap (λ (y : M.Memory). cost (linesOf y) α) e ∙ k .costs α;
-    }
+kept start x k = record {
+  well = well-records x (k .well);
+  variables = k .variables;
+  costs = λ α. ap (λ (y : M.Memory). cost (linesOf y) α) (well-back x (k .well)) ∙ k .costs α;
+}
 
 safe : (start m : Memory) (c : Call) → D.Safe (runsOf start) (runsOf m) c → Safe start m c × (runsOf (leftBy c m) ≡ D.leftBy c (runsOf m))
 safe start m (stepping r d f g w) k = (kept start _ k, well-back _ (k .well))

@@ -3,4 +3,5 @@ pub mod Records
 pub mod RecordsLaws
 pub mod CostRule
 pub mod OneListing
+pub mod LeftForm
 pub mod DeskTable

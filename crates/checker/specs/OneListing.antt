@@ -8,22 +8,20 @@ use lib.Dec.{T, eqb, eqb→eq}
 use lib.ListN.{length, length-map}
 use Rattle.run.specs.Boolean.{of-true, left, right}
 use Rattle.configuration.specs.Configuration.{total}
-use Rattle.configuration.specs.Memory.{linesOf, sized}
+use Rattle.configuration.specs.Memory.{sized}
 use Rattle.configuration.specs.FormLaws.{sized-is}
-use Rattle.listing.specs.Listing.{listed}
-use Rattle.listing.specs.Code.{codeOf}
 use Rattle.problem.specs.Problem.{Told, filed}
 use Rattle.problem.specs.Entries.{entries, agrees}
 use Rattle.problem.specs.ProblemLaws.{same-problem, Permuted, permuted}
 use Rattle.checker.specs.Records.{Memory, runsOf}
 use Rattle.checker.specs.declared.Line.{Line}
-use Rattle.checker.specs.Checker.{Left, fileOn, fileIn}
+use Rattle.checker.specs.Checker.{Left, fileOn, fileIn, listedIn, codeIn}
 
 -- a term area of 8,192 numbers, and a table of 128 records
 abbrev pub sizedIn : Memory → Bool
 sizedIn m = eqb (length (m .terms)) 8192 && eqb (length (m .table)) 128
 
-sized-runs : (m : Memory) → T (sizedIn m) → T (sized 128 (runsOf m))
+pub sized-runs : (m : Memory) → T (sizedIn m) → T (sized 128 (runsOf m))
 sized-runs m h =
     let a : Bool = eqb (length (m .terms)) 8192 in
     let b : Bool = eqb (length (m .table)) 128 in
@@ -34,14 +32,14 @@ sized-runs m h =
 -- what can be seen of a filing: its answer, head and areas, its listing, its code
 pub record OneFiling (a b : Left Told) : Type 0 where
   pub left : a ≡ b
-  pub listing : listed (runsOf (a .memory)) ≡ listed (runsOf (b .memory))
-  pub code : codeOf (a .memory .variables) (linesOf (runsOf (a .memory))) ≡ codeOf (b .memory .variables) (linesOf (runsOf (b .memory)))
+  pub listing : listedIn (a .memory) ≡ listedIn (b .memory)
+  pub code : codeIn (a .memory) ≡ codeIn (b .memory)
 
 seen : (a b : Left Told) → a ≡ b → OneFiling a b
 seen a b e = record {
   left = e;
-  listing = ap (λ (x : Left Told). listed (runsOf (x .memory))) e;
-  code = ap (λ (x : Left Told). codeOf (x .memory .variables) (linesOf (runsOf (x .memory)))) e;
+  listing = ap (λ (x : Left Told). listedIn (x .memory)) e;
+  code = ap (λ (x : Left Told). codeIn (x .memory)) e;
 }
 
 -- if every polynomial function other than 0 has the same total weight among the entries of both

@@ -1,5 +1,6 @@
 -- The line table as document 01 has it: "a lent run of 128 records, each a weight and a count of terms". The crates below keep it as two runs of numbers;
 -- here is how the one is the other.
+use mathlib.Core.Bool.{Bool}
 use mathlib.Core.List.{List, [], _∷_, map}
 use Prim.Native.Nat.{ℕ}
 use lib.IntN.{ℤ}
@@ -34,3 +35,7 @@ runsOf m = record { variables = m .variables; lines = m .lines; terms = m .terms
 
 abbrev pub recordsOf : M.Memory → Memory
 recordsOf m = record { variables = m .variables; lines = m .lines; terms = m .terms; table = tableOf (m .weights) (m .counts) }
+
+-- the records hold a configuration
+abbrev pub wellFormedIn : Memory → Bool
+wellFormedIn m = M.wellFormed (runsOf m)

@@ -1,12 +1,12 @@
 -- A table of records is two runs of numbers, and two runs of one length are a table of records.
-use mathlib.Core.Path.{_≡_, refl, sym, ap, ap₂, _∙_}
+use mathlib.Core.Path.{_≡_, refl, sym, ap, ap₂, subst, _∙_}
 use mathlib.Core.List.{List, [], _∷_}
 use Prim.Native.Nat.{ℕ, zero, suc}
 use native.Mathlib.Omega.{arith}
 use lib.Dec.{T}
 use lib.IntN.{ℤ, pos}
 use lib.ListN.{length, getD}
-use Rattle.checker.specs.Records.{weightsIn, countsIn, tableOf, Memory, runsOf, recordsOf}
+use Rattle.checker.specs.Records.{weightsIn, countsIn, tableOf, Memory, runsOf, recordsOf, wellFormedIn}
 use Rattle.checker.specs.declared.Line.{Line}
 use Rattle.configuration.specs.Memory.{wellFormed}
 use Rattle.configuration.specs.MemoryLaws.{well-formed, Formed, formed-parts}
@@ -59,3 +59,7 @@ pub well-back : (m : M.Memory) → T (wellFormed m) → runsOf (recordsOf m) ≡
 well-back m h =
     let f : Formed 128 m = formed-parts 128 m (well-formed m h) in
     runs-records m (f .weights-length ∙ sym (f .counts-length))
+
+-- and so its records are well formed
+pub well-records : (m : M.Memory) → T (wellFormed m) → T (wellFormedIn (recordsOf m))
+well-records m h = subst (λ (x : M.Memory). T (wellFormed x)) (sym (well-back m h)) h

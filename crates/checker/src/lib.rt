@@ -1,8 +1,10 @@
 // The operations as callers use them, over the line table as a lent run of records.
+pub mod by_value;
 mod check;
 mod file;
 mod step;
 mod table;
+pub mod whole;
 mod write;
 
 use calculus::Mode;

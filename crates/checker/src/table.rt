@@ -13,7 +13,7 @@ pub struct Table {
 }
 
 // A table of zeros.
-fn blank() -> Table
+pub fn blank() -> Table
     ensures { λ r. ⌜ r ≡ record { weights = replicate 128 (pos 0); counts = replicate 128 0 } ⌝ }
 {
     Table {
@@ -23,7 +23,7 @@ fn blank() -> Table
 }
 
 // A table with one line replaced.
-fn with_line(table: Table, i: usize, line: Line) -> Table
+pub fn with_line(table: Table, i: usize, line: Line) -> Table
     requires { ⌜ i < 128 ⌝ }
     ensures { λ r. ⌜ r ≡ record { weights = set (table .weights) i (line .weight); counts = set (table .counts) i (line .count) } ⌝ }
 {

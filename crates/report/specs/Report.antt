@@ -7,9 +7,9 @@ use lib.Dec.{leb}
 use lib.IntN.{ℤ, pos}
 use lib.ListN.{length, drop, replicate}
 use Rattle.io.specs.Digits.{digits}
-use Rattle.configuration.specs.Memory.{Memory, linesOf}
-use Rattle.listing.specs.Listing.{decimal, weightText, listed}
-use Rattle.listing.specs.Code.{codeOf}
+use Rattle.listing.specs.Listing.{decimal, weightText}
+use Rattle.checker.specs.Records.{Memory}
+use Rattle.checker.specs.Checker.{checkIn, lent, fileIn, listedIn, codeIn}
 use Rattle.report.specs.declared.Text.{Text}
 use Rattle.report.specs.declared.Report.{Report}
 use Rattle.report.specs.declared.Report.the-variants.{Written, TooShort}
@@ -41,7 +41,7 @@ codeText code = digits 16 16 code ++ (10 ∷ [])
 -- ---- what the programs print of the files' bytes
 -- the areas that they lend
 abbrev pub areas : Memory
-areas = P.lent (replicate 8192 0) (replicate 128 (pos 0)) (replicate 128 0)
+areas = lent (replicate 8192 0) (replicate 128 (record { weight = pos 0; count = 0 }))
 
 -- "A refused filing gives only `problem refused R at record K`."
 abbrev pub ifFiled : P.Told → List ℕ → List ℕ
@@ -51,15 +51,15 @@ ifFiled (P.refusedAt k n) text = filingText (P.refusedAt k n)
 -- the second program: the code of the whole listing
 unfoldable pub codeOutput : List ℕ → List ℕ
 codeOutput s =
-    let left = P.fileProblem s areas in
-    ifFiled (left .told) (codeText (codeOf (left .memory .variables) (linesOf (left .memory))))
+    let left = fileIn s areas in
+    ifFiled (left .told) (codeText (codeIn (left .memory)))
 
 -- the checking program: "the listing before, the listing after, and the verdict"
 unfoldable pub checkOutput : List ℕ → List ℕ → List ℕ
 checkOutput s t =
-    let left = P.fileProblem s areas in
-    let last = D.checkDerivation t (left .memory) in
-    ifFiled (left .told) (listed (left .memory) ++ listed (last .memory) ++ verdictText (last .told))
+    let left = fileIn s areas in
+    let last = checkIn t (left .memory) in
+    ifFiled (left .told) (listedIn (left .memory) ++ listedIn (last .memory) ++ verdictText (last .told))
 
 -- ---- the same of whole files: "one above 8,192 bytes gives only the line `problem too long` or `steps too long`, the first if both; lengths are tested
 -- before all else"

@@ -1,16 +1,19 @@
 // The lines that the programs print besides the listings.
-use derivation::check_derivation;
-use listing::code::code_of;
-use listing::put_listing;
+use checker::Line;
+use checker::by_value::all;
+use checker::by_value::check_derivation;
+use checker::by_value::file_problem;
+use checker::whole::code_of;
+use checker::whole::put_listing;
 use listing::text::put_bytes;
 use listing::text::put_decimal;
 use listing::text::put_weight;
-use problem::file_problem;
 use refusal::Reason;
 use refusal::number;
 ghost use mathlib.Core.Path.{_≡_};
 ghost use Prim.Native.Nat.{_+_, _≤_, min};
-ghost use lib.ListN.{length, take};
+ghost use lib.IntN.{pos};
+ghost use lib.ListN.{length, take, replicate};
 ghost use Rattle.problem.specs.Problem.{toldOf as toldOfFiling};
 ghost use Rattle.derivation.specs.Derivation.{toldOf};
 ghost use Rattle.refusal.specs.Refusal.{numberOf};
@@ -102,18 +105,28 @@ pub fn code_line(code: u64) -> Text
     Text { bytes, size }
 }
 
+// The line table that is lent: it holds nothing yet.
+fn blank_table() -> [Line; 128]
+    ensures { λ r. ⌜ r ≡ replicate 128 (record { weight = pos 0; count = 0 }) ⌝ }
+{
+    all(Line {
+        weight: 0,
+        count: 0,
+    })
+}
+
 // What there is to tell of a problem's bytes: the line of its code, or of what was refused.
 pub fn problem_line(bytes: &[u8]) -> Text
     ensures { λ r. ⌜ r ≡ textOf (codeOutput (now (bytes .entry))) ⌝ }
 {
     let mut terms = [0u32; 8192];
-    let mut weights = [0i64; 128];
-    let mut counts = [0u32; 128];
-    let filed = file_problem(bytes, &mut terms, &mut weights, &mut counts);
-    let head = filed.head;
-    let answer = filed.answer;
+    let filed = file_problem(bytes, &mut terms, blank_table());
+    let lines = filed.lines;
+    let report = filed.report;
+    let head = report.head;
+    let answer = report.answer;
     match answer {
-        problem::Answer::Filed => code_line(code_of(head, &terms, &weights, &counts)),
+        problem::Answer::Filed => code_line(code_of(head, &terms, lines)),
         _ => filing_line(answer),
     }
 }
@@ -138,19 +151,21 @@ pub fn check_report(bytes: &[u8], steps: &[u8], out: &mut [u8]) -> Report
         return Report::TooShort;
     }
     let mut terms = [0u32; 8192];
-    let mut weights = [0i64; 128];
-    let mut counts = [0u32; 128];
-    let filed = file_problem(bytes, &mut terms, &mut weights, &mut counts);
-    let before = filed.head;
-    let filing = filed.answer;
+    let filed = file_problem(bytes, &mut terms, blank_table());
+    let lines = filed.lines;
+    let first = filed.report;
+    let before = first.head;
+    let filing = first.answer;
     if let problem::Answer::Refused(_, _) = filing {
         return Report::Written(put_line(out, 0, filing_line(filing)));
     }
-    let middle = put_listing(out, 0, before, &terms, &weights, &counts);
-    let checked = check_derivation(steps, before, &mut terms, &mut weights, &mut counts);
-    let after = checked.head;
-    let answer = checked.answer;
-    let end = put_listing(out, middle, after, &terms, &weights, &counts);
+    let middle = put_listing(out, 0, before, &terms, lines);
+    let checked = check_derivation(steps, before, &mut terms, lines);
+    let left = checked.lines;
+    let last = checked.report;
+    let after = last.head;
+    let answer = last.answer;
+    let end = put_listing(out, middle, after, &terms, left);
     Report::Written(put_line(out, end, verdict_line(answer)))
 }
 
