@@ -4,4 +4,5 @@ pub mod RecordsLaws
 pub mod CostRule
 pub mod OneListing
 pub mod LeftForm
+pub mod Lengths
 pub mod DeskTable

@@ -1,4 +1,6 @@
-// The code of the three lent areas as bytes: each term and each count has four, each weight eight, the least one first.
+// The code of the lent areas as bytes: first the terms, then the weights of the lines, then their counts. A term or a count
+// has four bytes, a weight eight, the least one first.
+use checker::Line;
 use fnv::add_byte;
 use fnv::start;
 
@@ -15,12 +17,12 @@ fn add_number(code: u64, number: u64, bytes: u32) -> u64 {
     sum
 }
 
-// The code with an area of terms or of counts added.
-fn add_area(code: u64, area: &[u32]) -> u64 {
+// The code with the term area added.
+fn add_terms(code: u64, terms: &[u32]) -> u64 {
     let mut sum = code;
     let mut i: usize = 0;
-    while i < area.len() {
-        sum = add_number(sum, area[i] as u64, 4);
+    while i < terms.len() {
+        sum = add_number(sum, terms[i] as u64, 4);
         i += 1;
     }
     sum
@@ -34,21 +36,34 @@ fn bits(weight: i64) -> u64 {
     18446744073709551615 - (-(weight + 1)) as u64
 }
 
-// The code with an area of weights added.
-fn add_weights(code: u64, weights: &[i64]) -> u64 {
+// One of the two numbers of a line.
+enum Part {
+    Weight,
+    Count,
+}
+
+// The code with a part of a line added.
+fn add_part(code: u64, line: Line, part: Part) -> u64 {
+    match part {
+        Part::Weight => add_number(code, bits(line.weight), 8),
+        Part::Count => add_number(code, line.count as u64, 4),
+    }
+}
+
+// The code with the same part of every line added.
+fn add_lines(code: u64, lines: [Line; 128], part: Part) -> u64 {
     let mut sum = code;
     let mut i: usize = 0;
-    while i < weights.len() {
-        let weight = weights[i];
-        sum = add_number(sum, bits(weight), 8);
+    while i < 128 {
+        sum = add_part(sum, lines[i], part);
         i += 1;
     }
     sum
 }
 
-// The code of the terms, the weights and the counts, in this order.
-pub fn code_of(terms: &[u32], weights: &[i64], counts: &[u32]) -> u64 {
-    let termed = add_area(start(), terms);
-    let weighed = add_weights(termed, weights);
-    add_area(weighed, counts)
+// The code of the areas.
+pub fn code_of(terms: &[u32], lines: [Line; 128]) -> u64 {
+    let termed = add_terms(start(), terms);
+    let weighed = add_lines(termed, lines, Part::Weight);
+    add_lines(weighed, lines, Part::Count)
 }

@@ -6,14 +6,18 @@ use crate::records::put_term;
 use crate::records::put_variables;
 use crate::show::print_first_line;
 use crate::show::show_filing;
+use checker::Line;
+use checker::by_value::all;
 
 // Files a problem into areas that hold other numbers before, and prints the first line of what is held then.
 fn file(what: &[u8], bytes: &[u8]) {
     let mut terms = [9u32; 8192];
-    let mut weights = [-9i64; 128];
-    let mut counts = [9u32; 128];
-    let head = show_filing(what, bytes, &mut terms, &mut weights, &mut counts);
-    print_first_line(head, &terms, &weights, &counts)
+    let lines = all(Line {
+        weight: -9,
+        count: 9,
+    });
+    let filed = show_filing(what, bytes, &mut terms, lines);
+    print_first_line(filed, &terms)
 }
 
 // A clause whose plain literals are all the variables.

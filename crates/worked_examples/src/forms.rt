@@ -2,44 +2,29 @@
 use crate::show::show_check;
 use crate::show::show_line;
 use crate::show::show_step;
+use crate::state::State;
+use crate::state::no_lines;
 use calculus::Mode;
 use calculus::Rule;
+use checker::Line;
 use configuration::Head;
 
 // Each operation that is lent a configuration, on the same one.
-fn each_operation(
-    what: &[u8],
-    head: Head,
-    terms: &mut [u32],
-    weights: &mut [i64],
-    counts: &mut [u32],
-) {
+pub fn each_operation(what: &[u8], state: State, terms: &mut [u32]) {
     let mut area = [46u8; 24];
     let f = [1u32];
     let g = [2u32];
-    show_step(
-        what,
-        head,
-        terms,
-        weights,
-        counts,
-        Rule::Prod,
-        Mode::Signed,
-        &f,
-        &g,
-        1,
-    );
-    show_check(what, b"Z", head, terms, weights, counts);
-    show_line(what, &mut area, head, terms, weights, counts, 0)
+    show_step(what, state, terms, Rule::Prod, Mode::Signed, &f, &g, 1);
+    show_check(what, b"Z", state, terms);
+    show_line(what, &mut area, state, terms, 0)
 }
 
 // Areas of zeros under a head that says something else.
 fn under_head(what: &[u8], variables: u32, lines: u32) {
     let head = Head { variables, lines };
     let mut terms = [0u32; 8192];
-    let mut weights = [0i64; 128];
-    let mut counts = [0u32; 128];
-    each_operation(what, head, &mut terms, &mut weights, &mut counts)
+    let lines = no_lines();
+    each_operation(what, State { head, lines }, &mut terms)
 }
 
 // Two lines of one term each, of which the first has weight 1, and the last place of the term area.
@@ -49,16 +34,16 @@ fn two_lines(what: &[u8], first: u32, second: u32, weight: i64, last: u32) {
         lines: 2,
     };
     let mut terms = [0u32; 8192];
-    let mut weights = [0i64; 128];
-    let mut counts = [0u32; 128];
+    let mut lines = no_lines();
     terms[0] = first;
     terms[64] = second;
     terms[8191] = last;
-    weights[0] = 1;
-    weights[1] = weight;
-    counts[0] = 1;
-    counts[1] = 1;
-    each_operation(what, head, &mut terms, &mut weights, &mut counts)
+    lines[0] = Line {
+        weight: 1,
+        count: 1,
+    };
+    lines[1] = Line { weight, count: 1 };
+    each_operation(what, State { head, lines }, &mut terms)
 }
 
 // Ways in which a configuration fails to be well formed.

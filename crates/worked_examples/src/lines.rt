@@ -3,21 +3,18 @@ use crate::records::put_amount;
 use crate::records::put_term;
 use crate::records::put_variables;
 use crate::show::show_line;
-use problem::file_problem;
+use crate::state::filed;
 
 // Writes a line of the listing of x1*x2 + 1 at 12, of 2 variables.
 fn write(what: &[u8], area: &mut [u8], number: usize) {
     let mut terms = [0u32; 8192];
-    let mut weights = [0i64; 128];
-    let mut counts = [0u32; 128];
     let mut bytes = [0u8; 21];
     let first = put_variables(&mut bytes, 0, 2);
     let second = put_term(&mut bytes, first, 3);
     let weight = put_term(&mut bytes, second, 0);
     put_amount(&mut bytes, weight, b'W', 12);
-    let filed = file_problem(&bytes, &mut terms, &mut weights, &mut counts);
-    let head = filed.head;
-    show_line(what, area, head, &terms, &weights, &counts, number)
+    let state = filed(&bytes, &mut terms);
+    show_line(what, area, state, &terms, number)
 }
 
 // Numbers above the count, which is 1. It is told before the length.

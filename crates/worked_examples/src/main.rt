@@ -10,11 +10,11 @@ mod negative;
 mod operands;
 mod records;
 mod show;
-mod steps;
+mod state;
 
 use desk::desk_rows;
 use forms::wrong_forms;
-use lengths::wrong_lengths;
+use lengths::short_terms;
 use limits::full_tables;
 use limits::largest_weights;
 use lines::listing_lines;
@@ -24,7 +24,7 @@ use operands::direct_steps;
 // All examples.
 fn main() {
     desk_rows();
-    wrong_lengths();
+    short_terms();
     wrong_forms();
     negative_lines();
     direct_steps();

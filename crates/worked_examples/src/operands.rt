@@ -3,9 +3,9 @@ use crate::records::put_amount;
 use crate::records::put_term;
 use crate::records::put_variables;
 use crate::show::show_step;
+use crate::state::filed;
 use calculus::Mode;
 use calculus::Rule;
-use problem::file_problem;
 
 // The filing of x1 at 3 and x2 at 2, of 7 variables: 30 bytes.
 pub fn put_two_lines(out: &mut [u8]) -> usize {
@@ -19,24 +19,10 @@ pub fn put_two_lines(out: &mut [u8]) -> usize {
 // A step in the configuration of the two lines.
 fn step(what: &[u8], rule: Rule, mode: Mode, f: &[u32], g: &[u32], amount: i64) {
     let mut terms = [0u32; 8192];
-    let mut weights = [0i64; 128];
-    let mut counts = [0u32; 128];
     let mut bytes = [0u8; 30];
     put_two_lines(&mut bytes);
-    let filed = file_problem(&bytes, &mut terms, &mut weights, &mut counts);
-    let head = filed.head;
-    show_step(
-        what,
-        head,
-        &mut terms,
-        &mut weights,
-        &mut counts,
-        rule,
-        mode,
-        f,
-        g,
-        amount,
-    );
+    let state = filed(&bytes, &mut terms);
+    show_step(what, state, &mut terms, rule, mode, f, g, amount);
 }
 
 // A plain SUM.
@@ -88,27 +74,39 @@ fn unordered_terms() {
     signed_sum(b"a term twice", &f, &twice, 1)
 }
 
-// Refusal 8: amounts outside the range of the mode.
-fn amounts_out_of_range() {
+// Refusal 8: plain amounts that are not 1 to 10^12.
+fn plain_amounts() {
     let f = [1u32];
     let g = [2u32];
     plain_sum(b"plain amount 0", &f, &g, 0);
     plain_prod(b"plain amount -1", &f, &g, -1);
-    plain_sum(b"plain amount 10^12 + 1", &f, &g, 1000000000001);
+    plain_sum(b"plain amount 10^12 + 1", &f, &g, 1000000000001)
+}
+
+// Refusal 8: signed amounts that are 0, or beyond 10^12 on either side of it.
+fn signed_amounts() {
+    let f = [1u32];
+    let g = [2u32];
     signed_prod(b"signed amount 0", &f, &g, 0);
     signed_prod(b"signed amount 10^12 + 1", &f, &g, 1000000000001);
     signed_sum(b"signed amount -10^12 - 1", &f, &g, -1000000000001)
 }
 
-// Refusal 9, and steps that the weights just allow.
-fn missing_weights() {
+// Refusal 9 in a SUM, and the amounts that the weights just allow.
+fn missing_in_sums() {
     let f = [1u32];
     let g = [2u32];
-    let absent = [3u32];
     plain_sum(b"plain SUM of x1 and x2, 3", &f, &g, 3);
     plain_sum(b"plain SUM of x1 and x2, 2", &f, &g, 2);
     plain_sum(b"plain SUM of x1 with itself, 2", &f, &f, 2);
-    plain_sum(b"plain SUM of x1 with itself, 1", &f, &f, 1);
+    plain_sum(b"plain SUM of x1 with itself, 1", &f, &f, 1)
+}
+
+// Refusal 9 in a PROD, and the amount that the weight just allows.
+fn missing_in_prods() {
+    let f = [1u32];
+    let g = [2u32];
+    let absent = [3u32];
     plain_prod(b"plain PROD of x1 by x2, 4", &f, &g, 4);
     plain_prod(b"plain PROD of x1 by x2, 3", &f, &g, 3);
     plain_prod(b"plain PROD of x1*x2 by x2, 1", &absent, &g, 1)
@@ -130,7 +128,9 @@ pub fn direct_steps() {
     long_operands();
     unknown_variables();
     unordered_terms();
-    amounts_out_of_range();
-    missing_weights();
+    plain_amounts();
+    signed_amounts();
+    missing_in_sums();
+    missing_in_prods();
     long_results()
 }

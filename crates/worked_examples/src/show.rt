@@ -1,14 +1,16 @@
 // Each open operation once: its label, its answer, and what was lent as it is afterwards.
 use crate::code::code_of;
+use crate::state::State;
 use calculus::Mode;
 use calculus::Rule;
-use calculus::step::take_step;
+use checker::Line;
+use checker::by_value::check_derivation;
+use checker::by_value::file_problem;
+use checker::by_value::take_step;
+use checker::by_value::write_line;
 use configuration::Head;
-use derivation::check_derivation;
 use fnv::add_bytes;
 use fnv::start;
-use listing::write_line;
-use problem::file_problem;
 use refusal::Reason;
 use refusal::number;
 use report::held;
@@ -47,13 +49,13 @@ fn print_refusal(place: u64, reason: Reason) {
 }
 
 // Prints a configuration's head, and the code of its areas.
-fn print_areas(head: Head, terms: &[u32], weights: &[i64], counts: &[u32]) {
+fn print_areas(head: Head, terms: &[u32], lines: [Line; 128]) {
     print(b"variables ");
     print_number(head.variables as u64);
     print(b" lines ");
     print_number(head.lines as u64);
     print(b" areas ");
-    print_code(code_of(terms, weights, counts))
+    print_code(code_of(terms, lines))
 }
 
 // Prints what a filing answered.
@@ -103,83 +105,74 @@ fn print_front(text: &[u8], size: usize) {
 }
 
 // Prints the first line of a listing.
-pub fn print_first_line(head: Head, terms: &[u32], weights: &[i64], counts: &[u32]) {
+pub fn print_first_line(state: State, terms: &[u32]) {
+    let head = state.head;
+    let lines = state.lines;
     let mut text = [0u8; 8448];
-    let answer = write_line(&mut text, head, terms, weights, counts, 1);
+    let answer = write_line(&mut text, head, terms, lines, 1);
     if let listing::Answer::Written(size) = answer {
         print_front(&text, size)
     }
 }
 
 // Files a problem.
-pub fn show_filing(
-    what: &[u8],
-    bytes: &[u8],
-    terms: &mut [u32],
-    weights: &mut [i64],
-    counts: &mut [u32],
-) -> Head {
+pub fn show_filing(what: &[u8], bytes: &[u8], terms: &mut [u32], lines: [Line; 128]) -> State {
     print_label(b"filing: ", what);
-    let filed = file_problem(bytes, terms, weights, counts);
-    let head = filed.head;
-    let answer = filed.answer;
+    let filing = file_problem(bytes, terms, lines);
+    let lines = filing.lines;
+    let report = filing.report;
+    let head = report.head;
+    let answer = report.answer;
     print_filing(answer);
-    print_areas(head, terms, weights, counts);
-    head
+    print_areas(head, terms, lines);
+    State { head, lines }
 }
 
 // Takes a step.
 pub fn show_step(
     what: &[u8],
-    head: Head,
+    state: State,
     terms: &mut [u32],
-    weights: &mut [i64],
-    counts: &mut [u32],
     rule: Rule,
     mode: Mode,
     f: &[u32],
     g: &[u32],
     amount: i64,
-) -> Head {
+) -> State {
     print_label(b"step: ", what);
-    let stepped = take_step(head, terms, weights, counts, rule, mode, f, g, amount);
-    let left = stepped.head;
+    let head = state.head;
+    let lines = state.lines;
+    let step = take_step(head, terms, lines, rule, mode, f, g, amount);
+    let lines = step.lines;
+    let stepped = step.stepped;
+    let head = stepped.head;
     let answer = stepped.answer;
     print_step(answer);
-    print_areas(left, terms, weights, counts);
-    left
+    print_areas(head, terms, lines);
+    State { head, lines }
 }
 
 // Checks a derivation.
-pub fn show_check(
-    what: &[u8],
-    bytes: &[u8],
-    head: Head,
-    terms: &mut [u32],
-    weights: &mut [i64],
-    counts: &mut [u32],
-) -> Head {
+pub fn show_check(what: &[u8], bytes: &[u8], state: State, terms: &mut [u32]) -> State {
     print_label(b"derivation: ", what);
-    let checked = check_derivation(bytes, head, terms, weights, counts);
-    let left = checked.head;
-    let answer = checked.answer;
+    let head = state.head;
+    let lines = state.lines;
+    let check = check_derivation(bytes, head, terms, lines);
+    let lines = check.lines;
+    let report = check.report;
+    let head = report.head;
+    let answer = report.answer;
     print_check(answer);
-    print_areas(left, terms, weights, counts);
-    left
+    print_areas(head, terms, lines);
+    State { head, lines }
 }
 
 // Writes a listing's line.
-pub fn show_line(
-    what: &[u8],
-    area: &mut [u8],
-    head: Head,
-    terms: &[u32],
-    weights: &[i64],
-    counts: &[u32],
-    number: usize,
-) {
+pub fn show_line(what: &[u8], area: &mut [u8], state: State, terms: &[u32], number: usize) {
     print_label(b"line: ", what);
-    let answer = write_line(area, head, terms, weights, counts, number);
+    let head = state.head;
+    let lines = state.lines;
+    let answer = write_line(area, head, terms, lines, number);
     print_written(answer);
     print(b"area ");
     print_code(add_bytes(start(), area))

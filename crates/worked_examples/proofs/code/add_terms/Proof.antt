@@ -1,16 +1,16 @@
--- `add_area` is sound: it goes through the area once.
+-- `add_terms` is sound: it goes through the terms once.
 use Prim.Native.Nat.{_-_, _≤_}
 use native.Mathlib.Omega.{arith}
 use lib.ListN.{length}
 use borrow.Author.Needs.{needs}
-use Rattle.worked_examples.proofs.code.add_area.Statement.{statement}
-use Rattle.worked_examples.proofs.code.add_area.Tie as tie
+use Rattle.worked_examples.proofs.code.add_terms.Statement.{statement}
+use Rattle.worked_examples.proofs.code.add_terms.Tie as tie
 
 abbrev Inv-loop : tie.InvT-loop
-Inv-loop code area sum₀ i₀ sum i = i ≤ length area
+Inv-loop code terms sum₀ i₀ sum i = i ≤ length terms
 
 abbrev μ-loop : tie.MeasureT-loop
-μ-loop code area sum₀ i₀ sum i = length area - i
+μ-loop code terms sum₀ i₀ sum i = length terms - i
 
 loop-holds : tie.Need-loop-holds Inv-loop μ-loop
 loop-holds c = search needs
@@ -39,8 +39,8 @@ loop-again c = search needs
 returns : tie.Need-returns Inv-loop μ-loop
 returns c = search needs
 
-pub add-area-spec : {M : Type 1} → statement M
-add-area-spec =
+pub add-terms-spec : {M : Type 1} → statement M
+add-terms-spec =
     tie.close
     (tie.spec
     Inv-loop
