@@ -10,7 +10,7 @@ abbrev Inv-loop : tie.InvT-loop
 Inv-loop out₀ number₀ out number = length out ≡ length out₀
 
 abbrev μ-loop : tie.MeasureT-loop
-μ-loop out₀ number₀ out number = 234 - number
+μ-loop out₀ number₀ out number = 237 - number
 
 loop-holds : tie.Need-loop-holds Inv-loop μ-loop
 loop-holds c = refl
