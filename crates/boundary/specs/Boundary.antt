@@ -1,5 +1,5 @@
 -- What callers in other languages get: a whole text at the front of an area of bytes, and its length as a number. The bytes after the text stay as they
--- were. No text is empty, so that a length of 0 says that the area is too short; it is then left as it was.
+-- were. No text is empty (BoundaryLaws), so that a length of 0 says that the area is too short; it is then left as it was.
 use mathlib.Core.Bool.{cond}
 use mathlib.Core.List.{List, _++_}
 use Prim.Native.Nat.{ℕ}
