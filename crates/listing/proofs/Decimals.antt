@@ -36,6 +36,9 @@ pub last-digit : (n : ℕ) → 10 ≤ n → n < 2 ^ 64 → decimal n ≡ decimal
 last-digit n l h =
     more-digits 18 n l ∙ ap (λ (x : List ℕ). x ++ ((48 + n % 10) ∷ [])) (sym (enough 18 (n / 10) (omega arith)))
 
+pub two-digits : (n : ℕ) → 10 ≤ n → n < 100 → decimal n ≡ (48 + n / 10) ∷ (48 + n % 10) ∷ []
+two-digits n l h = last-digit n l (omega arith) ∙ ap (λ (x : List ℕ). x ++ ((48 + n % 10) ∷ [])) (one-digit 19 (n / 10) (omega arith))
+
 -- ---- a weight is its sign and a number; a negative one is -1 less a number
 pub positive : (w : ℤ) → leZ (pos 0) w ≡ true → mag w < 2 ^ 63 → T (nonNeg w) × (natAbs w < 2 ^ 64) × (weightText w ≡ decimal (natAbs w))
 positive (pos n) e h = (tt, omega arith, refl)

@@ -2,10 +2,11 @@
 use mathlib.Core.Path.{_≡_, refl, sym, ap, _∙_}
 use mathlib.Core.Bool.{Bool, true, false}
 use mathlib.Core.List.{List, [], _∷_, _++_, map, append-assoc, append-nil}
-use Prim.Native.Nat.{ℕ, zero, suc, _+_, _-_, _/_, _%_, _≤_, _<_}
+use Prim.Native.Nat.{ℕ, zero, suc, _+_, _-_, _/_, _%_, _^_, _≤_, _<_}
 use native.Mathlib.Numerals.{add-one}
 use native.Mathlib.Omega.{arith}
-use native.Mathlib.Nat.{not-suc-le-zero}
+use native.Mathlib.Nat.{not-suc-le-zero, pow-suc, pow-succ', div-one, div-div-eq-div-mul}
+use lib.Count.{trailingZeros, under}
 use lib.ListN.{length, getD, drop, drop-of-length-le}
 use lib.Seq.{drop-cons}
 use lib.IntN.{ℤ}
@@ -40,24 +41,71 @@ unfolding trailing
 first-name true x xs = joined-trailing (42 ∷ []) x xs
 first-name false x xs = refl
 
-module _ (m i : ℕ) (h : i < 33) where
-  below : 33 - i ≡ suc (33 - (i + 1))
-  below = omega arith
-
-  -- the variable i is in the mask
-  pub name-there : (first : Bool) → m % 2 ≡ 1
-      → names first (namesFrom (33 - i) i m) ≡ starred first (120 ∷ decimal i) ++ names false (namesFrom (33 - (i + 1)) (i + 1) (m / 2))
-  unfolding namesFrom
-  name-there first e = rw (below, eq-eqb (m % 2) 1 e, add-one) (first-name first (120 ∷ decimal i) (namesFrom (33 - suc i) (suc i) (m / 2)))
-
-  -- it is not
-  pub name-away : (m % 2 ≡ 1 → ⊥) → namesFrom (33 - i) i m ≡ namesFrom (33 - (i + 1)) (i + 1) (m / 2)
-  unfolding namesFrom
-  name-away e = rw (below, ne-eqb (m % 2) 1 e, add-one)
-
-pub names-over : (first : Bool) (i m : ℕ) → 33 ≤ i → names first (namesFrom (33 - i) i m) ≡ []
+-- the mask 0 has none
+names-none : (d i : ℕ) → namesFrom d i 0 ≡ []
 unfolding namesFrom
-names-over first i m h = let e : 33 - i ≡ 0 = omega arith in rw e (no-names first)
+names-none zero i = refl
+names-none (suc d) i = names-none d (suc i)
+
+pub names-over : (first : Bool) (d i m : ℕ) → m ≡ 0 → names first (namesFrom d i m) ≡ []
+names-over first d i m e = ap (λ (x : ℕ). names first (namesFrom d i x)) e ∙ ap (names first) (names-none d i) ∙ no-names first
+
+-- the first variable in a mask of d bits comes after t zeros; behind it so many bits are left
+record Next (d i m t : ℕ) : Type 0 where
+  pub left : ℕ
+  pub place : t + suc left ≡ d
+  pub small : m / 2 ^ t / 2 < 2 ^ left
+  pub text : namesFrom d i m ≡ (120 ∷ decimal (i + t)) ∷ namesFrom left (suc (i + t)) (m / 2 ^ t / 2)
+
+next : (k d i m : ℕ) → d ≤ k → m < 2 ^ d → (m ≡ 0 → ⊥) → Next d i m (trailingZeros k m)
+unfolding trailingZeros namesFrom
+next k zero i m l h n = absurd (n (omega arith))
+next zero (suc d) i m l h n = absurd (not-suc-le-zero l)
+next (suc k) (suc d) i m l h n =
+    go (m % 2) refl (λ (e : m % 2 ≡ 0). next k d (suc i) (m / 2) (omega arith) half (λ (z : m / 2 ≡ 0). n (omega arith)))
+  where
+    half : m / 2 < 2 ^ d
+    half = omega (arith, pow-suc 2 d)
+
+    go : (r : ℕ) → m % 2 ≡ r → (m % 2 ≡ 0 → Next d (suc i) (m / 2) (trailingZeros k (m / 2))) → Next (suc d) i m (under r (trailingZeros k (m / 2)))
+    go zero e f =
+        let t : ℕ = trailingZeros k (m / 2) in
+        let x = f e in
+        let s : m / 2 ^ suc t ≡ m / 2 / 2 ^ t = ap (λ (y : ℕ). m / y) (pow-succ' 2 t) ∙ sym (div-div-eq-div-mul m 2 (2 ^ t)) in
+        let p : i + suc t ≡ suc i + t = omega arith in
+        record {
+          left = x .left;
+          place = omega (arith, x .place);
+          small = rw s (x .small);
+          text = rw (s, p, e) (x .text);
+        }
+    go (suc r) e f =
+        let one : m % 2 ≡ 1 = omega arith in
+        let s : m / 2 ^ 0 ≡ m = div-one m in
+        let p : i + 0 ≡ i = omega arith in
+        record { left = d; place = omega arith; small = rw s half; text = rw (s, p, eq-eqb (m % 2) 1 one) refl }
+
+-- of a term's variables above i, whose bits are m, the first is j; the bits of those above j are `later`
+pub record There (i m : ℕ) (first : Bool) (j later : ℕ) : Type 0 where
+  pub within : j ≤ 32
+  pub small : later < 2 ^ (32 - j)
+  pub text : names first (namesFrom (32 - i) (i + 1) m) ≡ starred first (120 ∷ decimal j) ++ names false (namesFrom (32 - j) (j + 1) later)
+
+pub name-there : (i m : ℕ) (first : Bool) → i ≤ 32 → m < 2 ^ (32 - i) → (m ≡ 0 → ⊥)
+    → There i m first (i + (trailingZeros 32 m + 1)) (m / 2 ^ trailingZeros 32 m / 2)
+name-there i m first l h n =
+    let t : ℕ = trailingZeros 32 m in
+    let x = next 32 (32 - i) (i + 1) m (omega arith) h n in
+    let j : ℕ = i + (t + 1) in
+    let d : x .left ≡ 32 - j = omega (arith, x .place) in
+    let p : i + 1 + t ≡ j = omega arith in
+    let e : namesFrom (32 - i) (i + 1) m ≡ (120 ∷ decimal j) ∷ namesFrom (32 - j) (j + 1) (m / 2 ^ t / 2) =
+    rw (← d, ← p, add-one (i + 1 + t)) (x .text) in
+    record {
+      within = omega (arith, x .place);
+      small = rw (← d) (x .small);
+      text = ap (names first) e ∙ first-name first (120 ∷ decimal j) (namesFrom (32 - j) (j + 1) (m / 2 ^ t / 2));
+    }
 
 -- ---- the terms that are left, from the place i on
 abbrev pub plus : List ℕ

@@ -31,14 +31,27 @@ fn put_byte(out: &mut [u8], at: usize, byte: u8) -> usize
     at + 1
 }
 
+// A number of one or two digits in decimal.
+fn put_small(out: &mut [u8], at: usize, n: u8) -> usize
+    requires { ⌜ (n < 100) × (at + length (decimal n) ≤ length (now out)) ⌝ }
+    ensures end { λ r. ⌜ r ≡ at + length (decimal n) ⌝ }
+    ensures text { λ _. ⌜ now (out .exit) ≡ overwritten (now (out .entry)) at (decimal n) ⌝ }
+{
+    if n < 10 {
+        return put_byte(out, at, 48 + n);
+    }
+    let last = put_byte(out, at, 48 + n / 10);
+    put_byte(out, last, 48 + n % 10)
+}
+
 // A number in decimal: the digits in front of the last one first.
 pub fn put_decimal(out: &mut [u8], at: usize, n: u64) -> usize
     requires { ⌜ at + length (decimal n) ≤ length (now out) ⌝ }
     ensures end { λ r. ⌜ r ≡ at + length (decimal n) ⌝ }
     ensures text { λ _. ⌜ now (out .exit) ≡ overwritten (now (out .entry)) at (decimal n) ⌝ }
 {
-    if n < 10 {
-        return put_byte(out, at, 48 + n as u8);
+    if n < 100 {
+        return put_small(out, at, n as u8);
     }
     let last = put_decimal(out, at, n / 10);
     put_byte(out, last, 48 + (n % 10) as u8)
@@ -59,8 +72,8 @@ pub fn put_weight(out: &mut [u8], at: usize, weight: i64) -> usize
 }
 
 // The name of a variable, behind an asterisk unless it is the first of its term.
-fn put_name(out: &mut [u8], at: usize, first: bool, i: u64) -> usize
-    requires { ⌜ at + length (starred first (120 ∷ decimal i)) ≤ length (now out) ⌝ }
+fn put_name(out: &mut [u8], at: usize, first: bool, i: u8) -> usize
+    requires { ⌜ (i < 100) × (at + length (starred first (120 ∷ decimal i)) ≤ length (now out)) ⌝ }
     ensures end { λ r. ⌜ r ≡ at + length (starred first (120 ∷ decimal i)) ⌝ }
     ensures text { λ _. ⌜ now (out .exit) ≡ overwritten (now (out .entry)) at (starred first (120 ∷ decimal i)) ⌝ }
 {
@@ -69,10 +82,11 @@ fn put_name(out: &mut [u8], at: usize, first: bool, i: u64) -> usize
         name = put_byte(out, at, b'*');
     }
     let number = put_byte(out, name, b'x');
-    put_decimal(out, number, i)
+    put_small(out, number, i)
 }
 
-// The variables of a term that is not 1, ascending, with an asterisk between each two.
+// The variables of a term that is not 1, ascending, with an asterisk between each two: each turn goes to the next one in
+// the mask.
 fn put_names(out: &mut [u8], at: usize, mask: u32) -> usize
     requires { ⌜ at + length (joined (42 ∷ []) (namesFrom 32 1 mask)) ≤ length (now out) ⌝ }
     ensures end { λ r. ⌜ r ≡ at + length (joined (42 ∷ []) (namesFrom 32 1 mask)) ⌝ }
@@ -81,14 +95,13 @@ fn put_names(out: &mut [u8], at: usize, mask: u32) -> usize
     let mut end = at;
     let mut first = true;
     let mut rest = mask;
-    let mut i: u64 = 1;
-    while i < 33 {
-        if rest % 2 == 1 {
-            end = put_name(out, end, first, i);
-            first = false;
-        }
-        rest = rest / 2;
-        i += 1;
+    let mut i: u32 = 0;
+    while rest != 0 {
+        let zeros = u32::trailing_zeros(rest);
+        i += zeros + 1;
+        end = put_name(out, end, first, i as u8);
+        first = false;
+        rest = (rest >> zeros) / 2;
     }
     end
 }

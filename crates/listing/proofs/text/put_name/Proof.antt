@@ -3,7 +3,7 @@ use mathlib.Core.Path.{ap, _∙_}
 use mathlib.Core.Bool.{Bool}
 use mathlib.Core.Logic.{⊎-elim}
 use mathlib.Core.List.{List, [], _∷_, _++_}
-use Prim.Native.Nat.{ℕ, _+_}
+use Prim.Native.Nat.{ℕ}
 use native.Mathlib.Omega.{arith}
 use borrow.Author.Tests.{not-true, not-false}
 use Rattle.listing.specs.Listing.{decimal}
@@ -22,7 +22,7 @@ begun c =
     let s = c .before .before in
     let a = s .args in
     all-still (a .out .now) (a .at) (whole s) ((42 ∷ []) ++ (120 ∷ decimal (a .i)))
-    (ap (λ (b : Bool). starred b (120 ∷ decimal (a .i))) (not-true (a .first) (c .if1 .taken))) (s .pre)
+    (ap (λ (b : Bool). starred b (120 ∷ decimal (a .i))) (not-true (a .first) (c .if1 .taken))) (s .pre .1)
 
 -- the name is
 parted : (c : tie.Joined1)
@@ -36,7 +36,7 @@ parted c =
     (w .6 ∙ w .2 .ensures .0, w .5 ∙ w .2 .ensures .1))
     (λ w.
     rw (w .1, w .2)
-    (all-still (a .out .now) (a .at) (whole s) (120 ∷ decimal (a .i)) (ap (λ (b : Bool). starred b (120 ∷ decimal (a .i))) (not-false (a .first) (w .0 .left))) (s .pre)))
+    (all-still (a .out .now) (a .at) (whole s) (120 ∷ decimal (a .i)) (ap (λ (b : Bool). starred b (120 ∷ decimal (a .i))) (not-false (a .first) (w .0 .left))) (s .pre .1)))
     (c .if1 .came)
 
 numbered : (c : tie.After-put-byte2)
@@ -54,8 +54,10 @@ put-byte-requires c κs = omega (arith, begun (c .before))
 put-byte-requires-2 : tie.Need-put-byte-requires-2
 put-byte-requires-2 c κs = omega (arith, parted (c .before))
 
-put-decimal-requires : tie.Need-put-decimal-requires
-put-decimal-requires c κs = omega (arith, numbered (c .before .before .before))
+put-small-requires : tie.Need-put-small-requires
+put-small-requires c κs =
+    let s = c .before .before .before .before .before .before .before in
+    (s .pre .0, omega (arith, numbered (c .before .before .before)))
 
 same-length : tie.Need-same-length
 same-length c = omega (arith, numbered (c .before .before .before .before .before .before))
@@ -65,11 +67,11 @@ returns c =
     let s = c .before .before .before .before .before .before .before .before .before .before in
     let a = s .args in
     let h = c .before .before .before .before .before .before .put-byte2 in
-    rest-written (a .out .now) (a .at) (whole s) (h .last .0) (h .result) (decimal (a .i)) (c .before .before .put-decimal .last .0) (c .before .before .put-decimal .result)
+    rest-written (a .out .now) (a .at) (whole s) (h .last .0) (h .result) (decimal (a .i)) (c .before .before .put-small .last .0) (c .before .before .put-small .result)
     (numbered (c .before .before .before .before .before .before))
-    (c .before .before .put-decimal .ensures)
+    (c .before .before .put-small .ensures)
 
 pub put-name-spec : {M : Type 1} → statement M
 put-name-spec =
     tie.close
-    (tie.spec put-byte-requires put-byte-requires-2 put-decimal-requires same-length returns)
+    (tie.spec put-byte-requires put-byte-requires-2 put-small-requires same-length returns)

@@ -1,72 +1,89 @@
 -- `put_names` meets its contract. The invariant: the names that are left, written behind what stands, are the whole.
-use mathlib.Core.Path.{ap, _∙_}
-use mathlib.Core.Logic.{⊎-elim}
 use mathlib.Core.Bool.{false}
 use mathlib.Core.List.{List, [], _∷_, _++_}
-use Prim.Native.Nat.{ℕ, _+_, _-_, _/_, _≤_}
+use Prim.Native.Nat.{ℕ, _+_, _-_, _/_, _^_, _≤_, _<_}
 use native.Mathlib.Omega.{arith}
+use lib.Count.{trailingZeros}
 use borrow.Author.Needs.{needs}
 use Rattle.listing.specs.Listing.{joined, namesFrom, decimal}
 use Rattle.listing.specs.Writing.{starred}
-use Rattle.listing.proofs.Names.{names, name-there, name-away, names-over}
+use Rattle.listing.proofs.Names.{names, There, name-there, names-over}
 use Rattle.listing.proofs.Writes.{Still, still-as, next-fits, next-written, none-left}
 use Rattle.listing.proofs.text.put_names.Statement.{statement}
 use Rattle.listing.proofs.text.put_names.Tie as tie
 
 abbrev Inv-loop : tie.InvT-loop
 Inv-loop out₀ at mask end₀ first₀ rest₀ i₀ out end first rest i =
-    (i ≤ 33) × Still out₀ at (joined (42 ∷ []) (namesFrom 32 1 mask)) out end (names first (namesFrom (33 - i) i rest))
+    (i ≤ 32) × (rest < 2 ^ (32 - i)) × Still out₀ at (joined (42 ∷ []) (namesFrom 32 1 mask)) out end (names first (namesFrom (32 - i) (i + 1) rest))
 
 abbrev μ-loop : tie.MeasureT-loop
-μ-loop out₀ at mask end₀ first₀ rest₀ i₀ out end first rest i = 33 - i
+μ-loop out₀ at mask end₀ first₀ rest₀ i₀ out end first rest i = 32 - i
 
--- a variable that is in the mask: its name is still to be written
-there : (c : tie.Then1 Inv-loop μ-loop)
-    → (let a = c .before .before .before .before .args in
-    let l = c .before .before .loop in
-    Still (a .out .now) (a .at) (joined (42 ∷ []) (namesFrom 32 1 (a .mask))) (l .out) (l .end)
-    (starred (l .first) (120 ∷ decimal (l .i)) ++ names false (namesFrom (33 - (l .i + 1)) (l .i + 1) (l .rest / 2))))
+-- the next variable, and what is left of the mask behind it
+abbrev number : tie.In-loop Inv-loop μ-loop → ℕ
+number c = c .before .loop .i + (trailingZeros 32 (c .before .loop .rest) + 1)
+
+abbrev later : tie.In-loop Inv-loop μ-loop → ℕ
+later c = c .before .loop .rest / 2 ^ trailingZeros 32 (c .before .loop .rest) / 2
+
+abbrev name : tie.In-loop Inv-loop μ-loop → List ℕ
+name c = starred (c .before .loop .first) (120 ∷ decimal (number c))
+
+abbrev others : tie.In-loop Inv-loop μ-loop → List ℕ
+others c = names false (namesFrom (32 - number c) (number c + 1) (later c))
+
+there : (c : tie.In-loop Inv-loop μ-loop) → There (c .before .loop .i) (c .before .loop .rest) (c .before .loop .first) (number c) (later c)
 there c =
-    let a = c .before .before .before .before .args in
-    let l = c .before .before .loop in
-    still-as (a .out .now) (a .at) (joined (42 ∷ []) (namesFrom 32 1 (a .mask))) (l .out) (l .end) (names (l .first) (namesFrom (33 - l .i) (l .i) (l .rest)))
-    (starred (l .first) (120 ∷ decimal (l .i)) ++ names false (namesFrom (33 - (l .i + 1)) (l .i + 1) (l .rest / 2)))
-    (name-there (l .rest) (l .i) (omega arith) (l .first) (c .if1 .taken))
-    (l .inv .1)
+    let l = c .before .loop in
+    name-there (l .i) (l .rest) (l .first) (l .inv .0) (l .inv .1) (c .loop-test .taken)
+
+-- its name is still to be written
+begun : (c : tie.In-loop Inv-loop μ-loop)
+    → (let a = c .before .before .before .args in
+    let l = c .before .loop in
+    Still (a .out .now) (a .at) (joined (42 ∷ []) (namesFrom 32 1 (a .mask))) (l .out) (l .end) (name c ++ others c))
+begun c =
+    let a = c .before .before .before .args in
+    let l = c .before .loop in
+    still-as (a .out .now) (a .at) (joined (42 ∷ []) (namesFrom 32 1 (a .mask))) (l .out) (l .end)
+    (names (l .first) (namesFrom (32 - l .i) (l .i + 1) (l .rest))) (name c ++ others c) (there c .text) (l .inv .2)
 
 loop-holds : tie.Need-loop-holds Inv-loop μ-loop
 loop-holds c = search needs
 
+add-i : tie.Need-add-i Inv-loop μ-loop
+add-i c = record { fits = omega (arith, there c .within) }
+
+add-i-2 : tie.Need-add-i-2 Inv-loop μ-loop
+add-i-2 c = record { fits = omega (arith, there c .within) }
+
+cast-put-name : tie.Need-cast-put-name Inv-loop μ-loop
+cast-put-name c = record { fits = omega (arith, there (c .before) .within) }
+
 put-name-requires : tie.Need-put-name-requires Inv-loop μ-loop
 put-name-requires c κs =
-    let a = c .before .before .before .before .before .args in
-    let l = c .before .before .before .loop in
-    next-fits (a .out .now) (a .at) (joined (42 ∷ []) (namesFrom 32 1 (a .mask))) (l .out) (l .end) (starred (l .first) (120 ∷ decimal (l .i)))
-    (names false (namesFrom (33 - (l .i + 1)) (l .i + 1) (l .rest / 2))) (there (c .before))
+    let k = c .before in
+    let a = k .before .before .before .args in
+    let l = k .before .loop in
+    let whole : List ℕ = joined (42 ∷ []) (namesFrom 32 1 (a .mask)) in
+    (omega (arith, there k .within), next-fits (a .out .now) (a .at) whole (l .out) (l .end) (name k) (others k) (begun k))
 
-add-i : tie.Need-add-i Inv-loop μ-loop
-add-i c = search needs
+shr-rest : tie.Need-shr-rest Inv-loop μ-loop
+shr-rest c = omega (arith, there (c .before .before .before .before) .within)
 
 loop-less : tie.Need-loop-less Inv-loop μ-loop
-loop-less c = search needs
+loop-less c = omega (arith, there (c .before .before .before .before) .within)
 
 loop-again : tie.Need-loop-again Inv-loop μ-loop
 loop-again c =
-    let a = c .before .before .before .before .args in
-    let l = c .before .before .loop in
-    let whole : List ℕ = joined (42 ∷ []) (namesFrom 32 1 (a .mask)) in
-    let later : List (List ℕ) = namesFrom (33 - (l .i + 1)) (l .i + 1) (l .rest / 2) in (
-      omega arith,
-      ⊎-elim
-          (λ w.
-          rw (w .7)
-          (next-written (a .out .now) (a .at) whole (l .out) (l .end) (starred (l .first) (120 ∷ decimal (l .i))) (names false later) (c .if1 .out) (c .if1 .end)
-          (there (record { before = c .before; if1 = w .0 })) (w .6 ∙ w .2 .ensures .0, w .5 ∙ w .2 .ensures .1)))
-          (λ w.
-          rw (w .1, w .2, w .3)
-          (still-as (a .out .now) (a .at) whole (l .out) (l .end) (names (l .first) (namesFrom (33 - l .i) (l .i) (l .rest))) (names (l .first) later)
-          (ap (names (l .first)) (name-away (l .rest) (l .i) (omega arith) (w .0 .left))) (l .inv .1)))
-          (c .if1 .came),
+    let k = c .before .before .before .before in
+    let a = k .before .before .before .args in
+    let l = k .before .loop in
+    let p = c .before .before .put-name in
+    let whole : List ℕ = joined (42 ∷ []) (namesFrom 32 1 (a .mask)) in (
+      there k .within,
+      there k .small,
+      next-written (a .out .now) (a .at) whole (l .out) (l .end) (name k) (others k) (p .last .0) (p .result) (begun k) (p .ensures),
     )
 
 same-length : tie.Need-same-length Inv-loop μ-loop
@@ -76,8 +93,9 @@ returns : tie.Need-returns Inv-loop μ-loop
 returns c =
     let a = c .before .before .before .args in
     let l = c .before .loop in
-    none-left (a .out .now) (a .at) (joined (42 ∷ []) (namesFrom 32 1 (a .mask))) (l .out) (l .end) (names (l .first) (namesFrom (33 - l .i) (l .i) (l .rest)))
-    (names-over (l .first) (l .i) (l .rest) (omega arith)) (l .inv .1)
+    none-left (a .out .now) (a .at) (joined (42 ∷ []) (namesFrom 32 1 (a .mask))) (l .out) (l .end)
+    (names (l .first) (namesFrom (32 - l .i) (l .i + 1) (l .rest)))
+    (names-over (l .first) (32 - l .i) (l .i + 1) (l .rest) (omega arith)) (l .inv .2)
 
 pub put-names-spec : {M : Type 1} → statement M
 put-names-spec =
@@ -86,8 +104,11 @@ put-names-spec =
     Inv-loop
     μ-loop
     loop-holds
-    put-name-requires
     add-i
+    add-i-2
+    cast-put-name
+    put-name-requires
+    shr-rest
     loop-less
     loop-again
     same-length
