@@ -1,4 +1,5 @@
-// The whole listing of records that are kept by value, and its code.
+// The whole listing of records that are kept by value, and its code. Both are for the report, whose configurations are known
+// to be well formed.
 use crate::Line;
 use crate::table::Table;
 use crate::table::blank;
@@ -25,7 +26,7 @@ fn runs_of(lines: [Line; 128]) -> Table
     table
 }
 
-// Writes the whole listing from a place in the bytes on, of a configuration that is known to be well formed.
+// Writes the whole listing from a place in the bytes on.
 pub fn put_listing(
     out: &mut [u8],
     at: usize,
@@ -44,7 +45,7 @@ pub fn put_listing(
     listing::put_listing(out, at, head, terms, &weights, &counts)
 }
 
-// The code of the whole listing, of a configuration that is known to be well formed.
+// The code of the whole listing.
 pub fn code_of(head: Head, terms: &[u32], lines: [Line; 128]) -> u64
     requires { ⌜ T (wellFormedIn (memoryOf head (now terms) lines)) ⌝ }
     ensures { λ r. ⌜ r ≡ codeIn (memoryOf head (now (terms .entry)) lines) ⌝ }
