@@ -77,6 +77,11 @@ orderOf (t ∷ f) (u ∷ g) = cond (eqb t u) (orderOf f g) (cond (before t u) Ea
 abbrev pub Ordered : List ℕ → Type 0
 Ordered f = Sorted before f
 
+-- how many terms of a polynomial stand before a term
+unfoldable pub placeOf : ℕ → List ℕ → ℕ
+placeOf t [] = 0
+placeOf t (u ∷ f) = cond (before u t) (suc (placeOf t f)) 0
+
 -- every term has its variables within a mask; every term has its variables among the first n
 abbrev pub Uses : ℕ → List ℕ → Type 0
 Uses m f = All (λ t. T (value t m)) f

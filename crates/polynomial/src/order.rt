@@ -8,7 +8,7 @@ ghost use Rattle.run.specs.Run.{sorted};
 ghost use Rattle.polynomial.specs.Polynomial.{orderOf};
 
 // The lesser of two numbers.
-fn least(a: usize, b: usize) -> usize
+pub fn least(a: usize, b: usize) -> usize
     ensures { λ r. ⌜ r ≡ min a b ⌝ }
 {
     if a < b { a } else { b }

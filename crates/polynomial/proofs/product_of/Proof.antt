@@ -6,8 +6,8 @@ use Rattle.polynomial.proofs.Keys.{most-products}
 use Rattle.polynomial.proofs.product_of.Statement.{statement}
 use Rattle.polynomial.proofs.product_of.Tie as tie
 
-mul-if1 : tie.Need-mul-if1
-mul-if1 c =
+mul-pairs : tie.Need-mul-pairs
+mul-pairs c =
     let s = c .before .before in
     omega (arith, most-products (length (s .args .f .now)) (length (s .args .g .now)) (s .pre .0) (s .pre .1))
 
@@ -30,19 +30,31 @@ slice-aggregate-product-in-4 : tie.Need-slice-aggregate-product-in-4
 slice-aggregate-product-in-4 c = search needs
 
 product-in-requires-2 : tie.Need-product-in-requires-2
-product-in-requires-2 c κs =
-    let s = c .before .before .before .before .before in
-    let most = most-products (length (s .args .f .now)) (length (s .args .g .now)) (s .pre .0) (s .pre .1) in
-    (most, most)
+product-in-requires-2 c κs = search needs
 
 returns-2 : tie.Need-returns-2
 returns-2 c = search needs
+
+slice-aggregate-product-in-5 : tie.Need-slice-aggregate-product-in-5
+slice-aggregate-product-in-5 c = search needs
+
+slice-aggregate-product-in-6 : tie.Need-slice-aggregate-product-in-6
+slice-aggregate-product-in-6 c = search needs
+
+product-in-requires-3 : tie.Need-product-in-requires-3
+product-in-requires-3 c κs =
+    let s = c .before .before .before .before .before .before in
+    let most = most-products (length (s .args .f .now)) (length (s .args .g .now)) (s .pre .0) (s .pre .1) in
+    (most, most)
+
+returns-3 : tie.Need-returns-3
+returns-3 c = search needs
 
 pub product-of-spec : {M : Type 1} → statement M
 product-of-spec =
     tie.close
     (tie.spec
-    mul-if1
+    mul-pairs
     slice-aggregate-product-in
     slice-aggregate-product-in-2
     product-in-requires
@@ -50,4 +62,8 @@ product-of-spec =
     slice-aggregate-product-in-3
     slice-aggregate-product-in-4
     product-in-requires-2
-    returns-2)
+    returns-2
+    slice-aggregate-product-in-5
+    slice-aggregate-product-in-6
+    product-in-requires-3
+    returns-3)
