@@ -6,15 +6,14 @@ use Prim.Native.Nat.{ℕ, zero, suc, _-_, _≤_, _<_, _^_}
 use native.Mathlib.Omega.{arith}
 use lib.Dec.{T, leb, leb→le, eqb}
 use lib.IntN.{ℤ, pos, negsuc, _+ℤ_, _-ℤ_, negℤ, +ℤ-idl}
-use lib.ListN.{length, replicate}
-use lib.Seq.{take-at}
+use lib.ListN.{length}
 use lib.Signed.{ltZ, leZ}
 use mir.Syntax.{w64}
 use mir.Val.{SFits, toZ, ofZ}
 use mir.Facts.{toZ-ofZ}
 use borrow.Author.Tests.{ltb-true, ltb-false, le-leb, lt-leb, ne-eqb}
 use Rattle.polynomial.specs.Polynomial.{sumOf, productOf, Below, termsOf, outcomeOf}
-use Rattle.polynomial.specs.PolynomialLaws.{product-plus-one}
+use Rattle.polynomial.specs.PolynomialLaws.{product-plus-one, terms-of}
 use Rattle.polynomial.specs.declared.Outcome.{Outcome}
 use Rattle.configuration.specs.Weight.{limit, inRange}
 use Rattle.calculus.specs.Calculus.{amountFits}
@@ -76,7 +75,7 @@ module _ (r : Outcome) (l : List ℕ) (e : r ≡ outcomeOf l) where
 
   -- the polynomial itself, where it has at most 64 terms
   pub terms-are : r .length ≤ 64 → termsOf (r .polynomial) ≡ l
-  terms-are h = rw (e, short h) (take-at l (replicate (64 - length l) 0) (length l) refl)
+  terms-are h = terms-of l (r .polynomial) (rw (e, short h))
 
 -- f g + f, worked out from the answer for f g, is f (g + 1)
 pub plus-one : (r : Outcome) (f g p : List ℕ) → Below 32 f → Below 32 g → p ≡ productOf f g → r ≡ outcomeOf (sumOf p f)

@@ -7,16 +7,14 @@ use native.Mathlib.Nat.{le-trans}
 use native.Mathlib.Omega.{arith}
 use lib.Dec.{T, leb, leb→le}
 use lib.IntN.{ℤ, pos, negsuc, _+ℤ_, negℤ, +ℤ-idl, +ℤ-idr}
-use lib.ListN.{length, replicate}
+use lib.ListN.{length}
 use lib.Pow.{pow-mono}
-use lib.Seq.{take-at}
 use lib.Signed.{leZ, mag}
 use Rattle.run.specs.Boolean.{is-false, of-true}
 use Rattle.run.specs.Run.{sorted}
 use Rattle.term.specs.Term.{before}
-use Rattle.polynomial.specs.Polynomial.{orderOf, Below, termsOf, polynomialOf}
+use Rattle.polynomial.specs.Polynomial.{orderOf, Below}
 use Rattle.polynomial.specs.OrderingLaws.{order-self, order-same}
-use Rattle.polynomial.specs.declared.Polynomial.{Polynomial}
 use Rattle.polynomial.specs.declared.Ordering.the-variants.{Same}
 use Rattle.configuration.specs.Weight.{limit, inRange}
 use Rattle.configuration.specs.Configuration.{Line, line, some, same, total, weight, add, addAll, negated, Every, below, isPolynomial, anyNegative}
@@ -229,9 +227,6 @@ operands-fit n f g o j e =
     let b : Bool = leb (length g) 64 in
     let h = all-pass (a && b) (below n f && below n g) (sorted before f && sorted before g) 7 6 16 o e j in
     regroup a b (below n f) (below n g) (sorted before f) (sorted before g) (of-true (h .0)) (of-true (h .1 .0)) (of-true (h .1 .1))
-
-pub loaded : (l : List ℕ) (p : Polynomial) → p ≡ polynomialOf l → termsOf p ≡ l
-loaded l p e = rw e (take-at l (replicate (64 - length l) 0) (length l) refl)
 
 module _ (r : Rule) (d : Mode) (f g : List ℕ) (w : ℤ) (m : Memory) where
   pub other-lengths : ((length (m .terms) ≡ 8192) × (length (m .weights) ≡ 128) × (length (m .counts) ≡ 128) → ⊥) → leftOf m (Refused 0 Reasons.WrongLength) ≡ directStep r d f g w m

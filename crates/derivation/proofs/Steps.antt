@@ -1,16 +1,15 @@
 -- What a step leaves of a check: the lines that were there, where it is refused, or those of the taken step, which are well formed again.
 use mathlib.Core.Path.{_≡_, refl, sym, ap, subst, _∙_}
 use mathlib.Core.Bool.{Bool, true, false, true≢false}
-use mathlib.Core.List.{List, []}
-use Prim.Native.Nat.{ℕ, _+_, _≤_}
+use mathlib.Core.List.{List}
+use Prim.Native.Nat.{ℕ, _+_, _-_, _≤_}
 use native.Mathlib.Numerals.{add-one}
 use native.Mathlib.Omega.{arith}
 use lib.Dec.{T}
 use lib.IntN.{ℤ}
-use lib.ListN.{length}
+use lib.ListN.{length, take}
 use Rattle.refusal.specs.Refusal.{numberOf}
 use Rattle.refusal.specs.declared.Reason.{Reason}
-use Rattle.polynomial.specs.Polynomial.{termsOf, polynomialOf}
 use Rattle.configuration.specs.Configuration.{Line, linesFit, weightsFit}
 use Rattle.configuration.specs.Memory.{Memory, memoryOf, linesOf, linesIn, imageOf, wellFormed}
 use Rattle.configuration.specs.MemoryLaws.{well-formed, variables-bound, there-and-back, image-wellFormed, fits-short, formed-parts}
@@ -26,7 +25,7 @@ use Rattle.derivation.specs.declared.Progress.{Progress}
 use Rattle.derivation.specs.declared.Step.{Step}
 use Rattle.walk.specs.declared.Turn.the-variants.{Accepted, Refused}
 use Rattle.configuration.specs.FormLaws.{none-polynomial}
-use Rattle.derivation.proofs.Entries.{left-by, refused-step, refused-ready, passed, accepted-step, accepted-ready}
+use Rattle.derivation.proofs.Entries.{left-by, turned-down, passes, passed}
 use Rattle.configuration.specs.Replacement as R
 use Rattle.calculus.specs.Calculus as C
 use Rattle.calculus.specs.declared.Answer.the-variants as Answers
@@ -58,15 +57,15 @@ was-taken : (m m′ : Memory) (x : R.Step) → leftOf m′ Answers.Taken ≡ lea
 was-taken m m′ (R.taken L) e = record { lines = L; is = refl; image = ap (λ (l : Left). l .memory) e }
 was-taken m m′ (R.refused n) e = absurd (true≢false (sym (ap (λ (l : Left). is-refused (l .told)) e)))
 
-module _ (s : List ℕ) (p : Progress) (ts : List ℕ) (ws : List ℤ) (cs : List ℕ) (r : Rule) where
+module _ (s : List ℕ) (p : Progress) (fs us ts : List ℕ) (ws : List ℤ) (cs : List ℕ) (r : Rule) where
   abbrev begun : W.Progress State
-  begun = progressOf p ts ws cs
+  begun = progressOf p fs us ts ws cs
 
   abbrev old : Memory
   old = memoryOf (p .head) ts ws cs
 
   abbrev stepping : ℤ → R.Step
-  stepping w = C.step r (p .mode) (termsOf (p .first)) (termsOf (p .work)) w (linesOf old)
+  stepping w = C.step r (p .mode) (take (p .first) fs) (take (p .work) us) w (linesOf old)
 
   pub step-misplaced : going (begun .state) ≡ false → onStep r s begun ≡ W.turnedDown 4
   step-misplaced e = rw e
@@ -79,7 +78,8 @@ module _ (s : List ℕ) (p : Progress) (ts : List ℕ) (ws : List ℤ) (cs : Lis
       pub step-cut : amountIn s (p .at + 1) ≡ A.Cut → onStep r s begun ≡ W.turnedDown 3
       step-cut a = rw (e, k, amount-cut s (p .at + 1) a)
 
-      module _ (w : ℤ) (a : amountIn s (p .at + 1) ≡ A.Whole w) (n : ℕ) (ready : Ready n p ts ws cs) (h : Head) (ts′ : List ℕ) (ws′ : List ℤ) (cs′ : List ℕ) where
+      module _ (w : ℤ) (a : amountIn s (p .at + 1) ≡ A.Whole w) (n : ℕ) (ready : Ready n p fs us ts ws cs)
+          (h : Head) (ts′ : List ℕ) (ws′ : List ℤ) (cs′ : List ℕ) where
         -- refused: the areas are as they were
         module _ (j : ℕ) (reason : Reason) (d : leftOf (memoryOf h ts′ ws′ cs′) (Answers.Refused j reason) ≡ leaves old (stepping w)) where
           kept : (stepping w ≡ R.refused (numberOf reason)) × (memoryOf h ts′ ws′ cs′ ≡ old)
@@ -89,10 +89,10 @@ module _ (s : List ℕ) (p : Progress) (ts : List ℕ) (ws : List ℤ) (cs : Lis
           step-down = rw (e, k, amount-whole s (p .at + 1) w a .0, amount-whole s (p .at + 1) w a .1, kept .0)
 
           pub step-refused : (q : Step) → q ≡ record { progress = p; turn = Refused reason }
-              → (left-by ts′ ws′ cs′ q ≡ W.after begun (onStep r s begun)) × Ready n (q .progress) ts′ ws′ cs′
+              → (left-by fs us ts′ ws′ cs′ q ≡ W.after begun (onStep r s begun)) × Ready n (q .progress) fs us ts′ ws′ cs′
           step-refused q g =
               rw (ap (λ (m : Memory). m .terms) (kept .1), ap (λ (m : Memory). m .weights) (kept .1), ap (λ (m : Memory). m .counts) (kept .1))
-              (refused-step p ts ws cs reason q g (onStep r s begun) step-down, refused-ready p ts ws cs reason q g n ready)
+              (turned-down n p fs us ts ws cs ready reason q g (onStep r s begun) step-down)
 
         -- taken: the areas hold the lines of the step
         module _ (d : leftOf (memoryOf h ts′ ws′ cs′) Answers.Taken ≡ leaves old (stepping w)) where
@@ -101,8 +101,8 @@ module _ (s : List ℕ) (p : Progress) (ts : List ℕ) (ws : List ℤ) (cs : Lis
 
           fits : T (linesFit (p .head .variables) (took .lines)) × (length (took .lines) ≤ 128) × T (weightsFit (took .lines))
           fits =
-              step-fits r (p .mode) (termsOf (p .first)) (termsOf (p .work)) w (p .head .variables) (linesOf old) (took .lines) (rw (ready .variables) (ready .operand))
-              (rw (ready .variables) (ready .polynomial)) (formed-parts 128 old (well-formed old (ready .well)) .fit) (took .is)
+              step-fits r (p .mode) (take (p .first) fs) (take (p .work) us) w (p .head .variables) (linesOf old) (took .lines)
+              (rw (ready .variables) (ready .operand)) (rw (ready .variables) (ready .polynomial)) (formed-parts 128 old (well-formed old (ready .well)) .fit) (took .is)
 
           new-lines : linesIn h ts′ ws′ cs′ ≡ took .lines
           new-lines = ap linesOf (took .image) ∙ there-and-back 128 (p .head .variables) (took .lines) (fits-short (p .head .variables) (took .lines) (fits .0))
@@ -115,13 +115,19 @@ module _ (s : List ℕ) (p : Progress) (ts : List ℕ) (ws : List ℤ) (cs : Lis
           step-variables : h .variables ≡ n
           step-variables = ap (λ (m : Memory). m .variables) (took .image) ∙ ready .variables
 
-          step-up : onStep r s begun ≡ W.accepted (progressOf (passed p 9 false (polynomialOf []) (polynomialOf []) h) ts′ ws′ cs′)
+          step-up : onStep r s begun ≡ W.accepted (progressOf (passed p 9 false 0 0 h) fs us ts′ ws′ cs′)
           step-up = rw (e, k, amount-whole s (p .at + 1) w a .0, amount-whole s (p .at + 1) w a .1, took .is, new-lines, add-one (p .records))
 
-          pub step-accepted : (q : Step) → q ≡ record { progress = passed p 9 false (polynomialOf []) (polynomialOf []) h; turn = Accepted }
-              → (left-by ts′ ws′ cs′ q ≡ W.after begun (onStep r s begun)) × Ready n (q .progress) ts′ ws′ cs′
-          step-accepted q g = (
-            accepted-step p 9 false (polynomialOf []) (polynomialOf []) h ts′ ws′ cs′ q g begun (onStep r s begun) step-up,
-            accepted-ready p 9 false (polynomialOf []) (polynomialOf []) h ts′ ws′ cs′ q g n (omega arith) (ready .counted) step-well step-variables (none-polynomial n)
-                (none-polynomial n),
-          )
+          pub step-accepted : (q : Step) → q ≡ record { progress = passed p 9 false 0 0 h; turn = Accepted }
+              → (left-by fs us ts′ ws′ cs′ q ≡ W.after begun (onStep r s begun)) × Ready n (q .progress) fs us ts′ ws′ cs′
+          step-accepted q g = passes n (passed p 9 false 0 0 h) fs us ts′ ws′ cs′ q g (record {
+            well = step-well;
+            variables = step-variables;
+            operand = none-polynomial n;
+            polynomial = none-polynomial n;
+            first-area = ready .first-area;
+            first-room = omega arith;
+            area = ready .area;
+            room = omega arith;
+            counted = omega (arith, ready .counted);
+          }) begun (onStep r s begun) step-up

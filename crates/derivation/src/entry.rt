@@ -7,8 +7,7 @@ use calculus::step::step;
 use configuration::Head;
 use configuration::form::none_negative;
 use configuration::table::weight_of;
-use polynomial::Polynomial;
-use polynomial::held;
+use polynomial::load;
 use record::Amount;
 use record::read_amount;
 use refusal::Reason;
@@ -19,9 +18,9 @@ ghost use mathlib.Core.Bool.{true, _&&_, not};
 ghost use mathlib.Core.List.{List};
 ghost use Prim.Native.Nat.{ℕ, _+_, _≤_, _<_};
 ghost use lib.IntN.{ℤ};
-ghost use lib.ListN.{length};
-ghost use Rattle.polynomial.specs.Polynomial.{termsOf};
-ghost use Rattle.configuration.specs.Configuration.{some};
+ghost use lib.Dec.{T, eqb};
+ghost use lib.ListN.{length, take};
+ghost use Rattle.configuration.specs.Configuration.{isPolynomial};
 ghost use Rattle.walk.specs.Walk.{stopOf, after};
 ghost use Rattle.derivation.specs.Derivation.{claimFits, onMode, onTerm, onChoice, onStep, onClaim};
 ghost use Rattle.derivation.specs.Held.{progressOf, Ready};
@@ -48,7 +47,7 @@ fn is_going(p: Progress) -> bool
 
 // Whether, besides, neither f is set nor the work polynomial has a term.
 fn is_idle(p: Progress) -> bool
-    ensures { λ r. ⌜ r ≡ ((p .started && not (p .closed)) && (not (p .chosen) && not (some (termsOf (p .work))))) ⌝ }
+    ensures { λ r. ⌜ r ≡ ((p .started && not (p .closed)) && (not (p .chosen) && eqb (p .work) 0)) ⌝ }
 {
     if !is_going(p) {
         return false;
@@ -56,18 +55,11 @@ fn is_idle(p: Progress) -> bool
     if p.chosen {
         return false;
     }
-    held(p.work) == 0
+    p.work == 0
 }
 
-// An accepted record of so many bytes, which leaves f, set or not, a work polynomial and a head.
-fn accepted(
-    p: Progress,
-    size: usize,
-    chosen: bool,
-    first: Polynomial,
-    work: Polynomial,
-    head: Head,
-) -> Step
+// An accepted record of so many bytes, which leaves f, set or not, and a work polynomial, of so many terms, and a head.
+fn accepted(p: Progress, size: usize, chosen: bool, first: usize, work: usize, head: Head) -> Step
     requires { ⌜ (p .at + size < 18446744073709551616) × (p .records < 18446744073709551615) ⌝ }
     ensures { λ r. ⌜ r ≡ record { progress = record { at = p .at + size; records = p .records + 1; started = p .started; mode = p .mode; chosen = chosen; first = first; work = work; head = head; closed = p .closed; claim = p .claim }; turn = Turn.Accepted } ⌝ }
 {
@@ -92,14 +84,12 @@ fn accepted(
 // N, Z: the mode.
 pub fn on_mode(p: Progress, mode: Mode) -> Step
     requires { ⌜ (p .at < 18446744073709551615) × (p .records ≤ p .at) ⌝ }
-    ensures step { λ r. ⌜ ((ts : List ℕ) (ws : List ℤ) (cs : List ℕ) → Ready (p .head .variables) p ts ws cs → record { reached = progressOf (r .progress) ts ws cs; stop = stopOf (r .turn) } ≡ after (progressOf p ts ws cs) (onMode mode (progressOf p ts ws cs))) ⌝ }
-    ensures ready { λ r. ⌜ ((ts : List ℕ) (ws : List ℤ) (cs : List ℕ) → Ready (p .head .variables) p ts ws cs → Ready (p .head .variables) (r .progress) ts ws cs) ⌝ }
+    ensures step { λ r. ⌜ ((fs us ts : List ℕ) (ws : List ℤ) (cs : List ℕ) → Ready (p .head .variables) p fs us ts ws cs → record { reached = progressOf (r .progress) fs us ts ws cs; stop = stopOf (r .turn) } ≡ after (progressOf p fs us ts ws cs) (onMode mode (progressOf p fs us ts ws cs))) ⌝ }
+    ensures ready { λ r. ⌜ ((fs us ts : List ℕ) (ws : List ℤ) (cs : List ℕ) → Ready (p .head .variables) p fs us ts ws cs → Ready (p .head .variables) (r .progress) fs us ts ws cs) ⌝ }
 {
     if p.started {
         return refused(p, Reason::Misplaced);
     }
-    let first = p.first;
-    let work = p.work;
     let head = p.head;
     Step {
         progress: Progress {
@@ -108,8 +98,8 @@ pub fn on_mode(p: Progress, mode: Mode) -> Step
             started: true,
             mode,
             chosen: p.chosen,
-            first,
-            work,
+            first: p.first,
+            work: p.work,
             head,
             closed: p.closed,
             claim: p.claim,
@@ -119,31 +109,40 @@ pub fn on_mode(p: Progress, mode: Mode) -> Step
 }
 
 // M: a term is added to the work polynomial.
-pub fn on_term(bytes: &[u8], p: Progress) -> Step
-    requires { ⌜ (p .at < length (now bytes)) × (p .records ≤ p .at) ⌝ }
-    ensures step { λ r. ⌜ ((ts : List ℕ) (ws : List ℤ) (cs : List ℕ) → Ready (p .head .variables) p ts ws cs → record { reached = progressOf (r .progress) ts ws cs; stop = stopOf (r .turn) } ≡ after (progressOf p ts ws cs) (onTerm (p .head .variables) (now (bytes .entry)) (progressOf p ts ws cs))) ⌝ }
-    ensures ready { λ r. ⌜ ((ts : List ℕ) (ws : List ℤ) (cs : List ℕ) → Ready (p .head .variables) p ts ws cs → Ready (p .head .variables) (r .progress) ts ws cs) ⌝ }
+pub fn on_term(bytes: &[u8], p: Progress, work: &mut [u32]) -> Step
+    requires { ⌜ (p .at < length (now bytes)) × (p .records ≤ p .at) × (length (now work) ≡ 64) × (p .work ≤ 64) × T (isPolynomial (p .head .variables) (take (p .work) (now work))) ⌝ }
+    ensures step { λ r. ⌜ ((fs ts : List ℕ) (ws : List ℤ) (cs : List ℕ) → Ready (p .head .variables) p fs (now (work .entry)) ts ws cs → record { reached = progressOf (r .progress) fs (now (work .exit)) ts ws cs; stop = stopOf (r .turn) } ≡ after (progressOf p fs (now (work .entry)) ts ws cs) (onTerm (p .head .variables) (now (bytes .entry)) (progressOf p fs (now (work .entry)) ts ws cs))) ⌝ }
+    ensures ready { λ r. ⌜ ((fs ts : List ℕ) (ws : List ℤ) (cs : List ℕ) → Ready (p .head .variables) p fs (now (work .entry)) ts ws cs → Ready (p .head .variables) (r .progress) fs (now (work .exit)) ts ws cs) ⌝ }
 {
     if !is_going(p) {
         return refused(p, Reason::Misplaced);
     }
     let head = p.head;
-    let first = p.first;
-    let work = p.work;
-    let added = add_term(head.variables, bytes, p.at + 1, work);
+    let added = add_term(head.variables, bytes, p.at + 1, work, p.work);
     let turn = added.turn;
     if let Turn::Refused(reason) = turn {
         return refused(p, reason);
     }
-    let sum = added.polynomial;
-    accepted(p, 5, p.chosen, first, sum, head)
+    accepted(p, 5, p.chosen, p.first, added.count, head)
+}
+
+// Copies the first terms of one area to the front of another.
+fn copy(from: &[u32], count: usize, to: &mut [u32])
+    requires { ⌜ (count ≤ length (now from)) × (count ≤ length (now to)) ⌝ }
+    ensures { λ _. ⌜ take count (now (to .exit)) ≡ take count (now (from .entry)) ⌝ }
+{
+    let mut i: usize = 0;
+    while i < count {
+        to[i] = from[i];
+        i += 1;
+    }
 }
 
 // K: the work polynomial becomes f, and is cleared.
-pub fn on_choice(p: Progress) -> Step
-    requires { ⌜ (p .at < 18446744073709551615) × (p .records ≤ p .at) ⌝ }
-    ensures step { λ r. ⌜ ((ts : List ℕ) (ws : List ℤ) (cs : List ℕ) → Ready (p .head .variables) p ts ws cs → record { reached = progressOf (r .progress) ts ws cs; stop = stopOf (r .turn) } ≡ after (progressOf p ts ws cs) (onChoice (progressOf p ts ws cs))) ⌝ }
-    ensures ready { λ r. ⌜ ((ts : List ℕ) (ws : List ℤ) (cs : List ℕ) → Ready (p .head .variables) p ts ws cs → Ready (p .head .variables) (r .progress) ts ws cs) ⌝ }
+pub fn on_choice(p: Progress, first: &mut [u32], work: &[u32]) -> Step
+    requires { ⌜ (p .at < 18446744073709551615) × (p .records ≤ p .at) × (length (now first) ≡ 64) × (length (now work) ≡ 64) × (p .work ≤ 64) ⌝ }
+    ensures step { λ r. ⌜ ((ts : List ℕ) (ws : List ℤ) (cs : List ℕ) → Ready (p .head .variables) p (now (first .entry)) (now (work .entry)) ts ws cs → record { reached = progressOf (r .progress) (now (first .exit)) (now (work .entry)) ts ws cs; stop = stopOf (r .turn) } ≡ after (progressOf p (now (first .entry)) (now (work .entry)) ts ws cs) (onChoice (progressOf p (now (first .entry)) (now (work .entry)) ts ws cs))) ⌝ }
+    ensures ready { λ r. ⌜ ((ts : List ℕ) (ws : List ℤ) (cs : List ℕ) → Ready (p .head .variables) p (now (first .entry)) (now (work .entry)) ts ws cs → Ready (p .head .variables) (r .progress) (now (first .exit)) (now (work .entry)) ts ws cs) ⌝ }
 {
     if !is_going(p) {
         return refused(p, Reason::Misplaced);
@@ -151,23 +150,25 @@ pub fn on_choice(p: Progress) -> Step
     if p.chosen {
         return refused(p, Reason::Misplaced);
     }
-    let work = p.work;
-    let head = p.head;
-    accepted(p, 1, true, work, Polynomial::ZERO, head)
+    let count = p.work;
+    copy(work, count, first);
+    accepted(p, 1, true, count, 0, p.head)
 }
 
 // S, P: a step of f with the work polynomial; both are cleared.
 pub fn on_step(
     bytes: &[u8],
     p: Progress,
+    first: &[u32],
+    work: &[u32],
     terms: &mut [u32],
     weights: &mut [i64],
     counts: &mut [u32],
     rule: Rule,
 ) -> Step
-    requires { ⌜ (p .at < length (now bytes)) × Ready (p .head .variables) p (now terms) (now weights) (now counts) ⌝ }
-    ensures step { λ r. ⌜ record { reached = progressOf (r .progress) (now (terms .exit)) (now (weights .exit)) (now (counts .exit)); stop = stopOf (r .turn) } ≡ after (progressOf p (now (terms .entry)) (now (weights .entry)) (now (counts .entry))) (onStep rule (now (bytes .entry)) (progressOf p (now (terms .entry)) (now (weights .entry)) (now (counts .entry)))) ⌝ }
-    ensures ready { λ r. ⌜ Ready (p .head .variables) (r .progress) (now (terms .exit)) (now (weights .exit)) (now (counts .exit)) ⌝ }
+    requires { ⌜ (p .at < length (now bytes)) × Ready (p .head .variables) p (now first) (now work) (now terms) (now weights) (now counts) ⌝ }
+    ensures step { λ r. ⌜ record { reached = progressOf (r .progress) (now (first .entry)) (now (work .entry)) (now (terms .exit)) (now (weights .exit)) (now (counts .exit)); stop = stopOf (r .turn) } ≡ after (progressOf p (now (first .entry)) (now (work .entry)) (now (terms .entry)) (now (weights .entry)) (now (counts .entry))) (onStep rule (now (bytes .entry)) (progressOf p (now (first .entry)) (now (work .entry)) (now (terms .entry)) (now (weights .entry)) (now (counts .entry)))) ⌝ }
+    ensures ready { λ r. ⌜ Ready (p .head .variables) (r .progress) (now (first .entry)) (now (work .entry)) (now (terms .exit)) (now (weights .exit)) (now (counts .exit)) ⌝ }
 {
     if !is_going(p) {
         return refused(p, Reason::Misplaced);
@@ -179,8 +180,10 @@ pub fn on_step(
     let Amount::Whole(amount) = read_amount(bytes, body) else {
         return refused(p, Reason::CutShort);
     };
-    let f = p.first;
-    let g = p.work;
+    let m = p.first;
+    let n = p.work;
+    let f = load(&first[..m]);
+    let g = load(&work[..n]);
     let head = p.head;
     let mode = p.mode;
     let stepped = step(head, terms, weights, counts, rule, mode, f, g, amount);
@@ -189,7 +192,7 @@ pub fn on_step(
     if let calculus::Answer::Refused(_, reason) = answer {
         return refused(p, reason);
     }
-    accepted(p, 9, false, Polynomial::ZERO, Polynomial::ZERO, left)
+    accepted(p, 9, false, 0, 0, left)
 }
 
 // Whether a claim is from 0 to 10^12.
@@ -208,8 +211,6 @@ fn closed_with(p: Progress, claim: i64) -> Step
     ensures { λ r. ⌜ r ≡ record { progress = record { at = p .at + 9; records = p .records + 1; started = p .started; mode = p .mode; chosen = p .chosen; first = p .first; work = p .work; head = p .head; closed = true; claim = claim }; turn = Turn.Accepted } ⌝ }
 {
     let mode = p.mode;
-    let first = p.first;
-    let work = p.work;
     let head = p.head;
     Step {
         progress: Progress {
@@ -218,8 +219,8 @@ fn closed_with(p: Progress, claim: i64) -> Step
             started: p.started,
             mode,
             chosen: p.chosen,
-            first,
-            work,
+            first: p.first,
+            work: p.work,
             head,
             closed: true,
             claim,
@@ -229,10 +230,18 @@ fn closed_with(p: Progress, claim: i64) -> Step
 }
 
 // B: the claim is at most the weight of the polynomial 1, and no line is negative.
-pub fn on_claim(bytes: &[u8], p: Progress, terms: &[u32], weights: &[i64], counts: &[u32]) -> Step
-    requires { ⌜ (p .at < length (now bytes)) × Ready (p .head .variables) p (now terms) (now weights) (now counts) ⌝ }
-    ensures step { λ r. ⌜ record { reached = progressOf (r .progress) (now (terms .entry)) (now (weights .entry)) (now (counts .entry)); stop = stopOf (r .turn) } ≡ after (progressOf p (now (terms .entry)) (now (weights .entry)) (now (counts .entry))) (onClaim (now (bytes .entry)) (progressOf p (now (terms .entry)) (now (weights .entry)) (now (counts .entry)))) ⌝ }
-    ensures ready { λ r. ⌜ Ready (p .head .variables) (r .progress) (now (terms .entry)) (now (weights .entry)) (now (counts .entry)) ⌝ }
+pub fn on_claim(
+    bytes: &[u8],
+    p: Progress,
+    first: &[u32],
+    work: &[u32],
+    terms: &[u32],
+    weights: &[i64],
+    counts: &[u32],
+) -> Step
+    requires { ⌜ (p .at < length (now bytes)) × Ready (p .head .variables) p (now first) (now work) (now terms) (now weights) (now counts) ⌝ }
+    ensures step { λ r. ⌜ record { reached = progressOf (r .progress) (now (first .entry)) (now (work .entry)) (now (terms .entry)) (now (weights .entry)) (now (counts .entry)); stop = stopOf (r .turn) } ≡ after (progressOf p (now (first .entry)) (now (work .entry)) (now (terms .entry)) (now (weights .entry)) (now (counts .entry))) (onClaim (now (bytes .entry)) (progressOf p (now (first .entry)) (now (work .entry)) (now (terms .entry)) (now (weights .entry)) (now (counts .entry)))) ⌝ }
+    ensures ready { λ r. ⌜ Ready (p .head .variables) (r .progress) (now (first .entry)) (now (work .entry)) (now (terms .entry)) (now (weights .entry)) (now (counts .entry)) ⌝ }
 {
     if !is_idle(p) {
         return refused(p, Reason::Misplaced);

@@ -11,13 +11,13 @@ use entry::on_mode;
 use entry::on_step;
 use entry::on_term;
 use entry::refused;
-use polynomial::Polynomial;
 use refusal::Reason;
 use term::degree;
 use walk::Turn;
 ghost use mathlib.Core.Path.{_≡_};
 ghost use mathlib.Core.Bool.{cond};
-ghost use Prim.Native.Nat.{_<_};
+ghost use mathlib.Core.List.{List};
+ghost use Prim.Native.Nat.{ℕ, _<_};
 ghost use lib.Dec.{T};
 ghost use lib.ListN.{length};
 ghost use Rattle.configuration.specs.Memory.{memoryOf, linesIn, wellFormed};
@@ -39,15 +39,16 @@ pub struct Report {
 }
 
 // How far a check has come: where the next record begins, how many are accepted, whether N or Z was among them, the mode,
-// whether f is set, f, the work polynomial, the head, whether B was among them, the claim.
+// whether f is set, how many terms f and the work polynomial have, the head, whether B was among them, the claim. The terms of
+// f and of the work polynomial stand at the fronts of two areas of 64.
 pub struct Progress {
     pub at: usize,
     pub records: u64,
     pub started: bool,
     pub mode: Mode,
     pub chosen: bool,
-    pub first: Polynomial,
-    pub work: Polynomial,
+    pub first: usize,
+    pub work: usize,
     pub head: Head,
     pub closed: bool,
     pub claim: i64,
@@ -63,30 +64,32 @@ pub struct Step {
 fn on_record(
     bytes: &[u8],
     p: Progress,
+    first: &mut [u32],
+    work: &mut [u32],
     terms: &mut [u32],
     weights: &mut [i64],
     counts: &mut [u32],
 ) -> Step
-    requires { ⌜ (p .at < length (now bytes)) × Ready (p .head .variables) p (now terms) (now weights) (now counts) ⌝ }
-    ensures step { λ r. ⌜ record { reached = progressOf (r .progress) (now (terms .exit)) (now (weights .exit)) (now (counts .exit)); stop = stopOf (r .turn) } ≡ after (progressOf p (now (terms .entry)) (now (weights .entry)) (now (counts .entry))) (onRecord (p .head .variables) (now (bytes .entry)) (progressOf p (now (terms .entry)) (now (weights .entry)) (now (counts .entry)))) ⌝ }
-    ensures ready { λ r. ⌜ Ready (p .head .variables) (r .progress) (now (terms .exit)) (now (weights .exit)) (now (counts .exit)) ⌝ }
+    requires { ⌜ (p .at < length (now bytes)) × Ready (p .head .variables) p (now first) (now work) (now terms) (now weights) (now counts) ⌝ }
+    ensures step { λ r. ⌜ record { reached = progressOf (r .progress) (now (first .exit)) (now (work .exit)) (now (terms .exit)) (now (weights .exit)) (now (counts .exit)); stop = stopOf (r .turn) } ≡ after (progressOf p (now (first .entry)) (now (work .entry)) (now (terms .entry)) (now (weights .entry)) (now (counts .entry))) (onRecord (p .head .variables) (now (bytes .entry)) (progressOf p (now (first .entry)) (now (work .entry)) (now (terms .entry)) (now (weights .entry)) (now (counts .entry)))) ⌝ }
+    ensures ready { λ r. ⌜ Ready (p .head .variables) (r .progress) (now (first .exit)) (now (work .exit)) (now (terms .exit)) (now (weights .exit)) (now (counts .exit)) ⌝ }
 {
     let at = p.at;
     let kind = bytes[at];
     if kind == b'M' {
-        return on_term(bytes, p);
+        return on_term(bytes, p, work);
     }
     if kind == b'K' {
-        return on_choice(p);
+        return on_choice(p, first, work);
     }
     if kind == b'S' {
-        return on_step(bytes, p, terms, weights, counts, Rule::Sum);
+        return on_step(bytes, p, first, work, terms, weights, counts, Rule::Sum);
     }
     if kind == b'P' {
-        return on_step(bytes, p, terms, weights, counts, Rule::Prod);
+        return on_step(bytes, p, first, work, terms, weights, counts, Rule::Prod);
     }
     if kind == b'B' {
-        return on_claim(bytes, p, terms, weights, counts);
+        return on_claim(bytes, p, first, work, terms, weights, counts);
     }
     if kind == b'N' {
         return on_mode(p, Mode::Plain);
@@ -111,7 +114,7 @@ fn degree_of(head: Head, terms: &[u32], weights: &[i64], counts: &[u32]) -> u32
 // The end of the bytes: B must have come.
 fn finish(p: Progress, terms: &[u32], weights: &[i64], counts: &[u32]) -> Answer
     requires { ⌜ T (wellFormed (memoryOf (p .head) (now terms) (now weights) (now counts))) × (p .records < 18446744073709551615) ⌝ }
-    ensures { λ r. ⌜ toldOf r ≡ verdict (progressOf p (now (terms .entry)) (now (weights .entry)) (now (counts .entry))) (cond (p .closed) nothing (refusedFor 15)) ⌝ }
+    ensures { λ r. ⌜ ((fs us : List ℕ) → toldOf r ≡ verdict (progressOf p fs us (now (terms .entry)) (now (weights .entry)) (now (counts .entry))) (cond (p .closed) nothing (refusedFor 15))) ⌝ }
 {
     if !p.closed {
         return Answer::Refused(p.records + 1, Reason::Unfinished);
@@ -132,20 +135,22 @@ fn read_records(
     requires { ⌜ T (wellFormed (memoryOf head (now terms) (now weights) (now counts))) ⌝ }
     ensures { λ r. ⌜ leftOf (memoryOf (r .head) (now (terms .exit)) (now (weights .exit)) (now (counts .exit))) (r .answer) ≡ checked (now (bytes .entry)) (memoryOf head (now (terms .entry)) (now (weights .entry)) (now (counts .entry))) ⌝ }
 {
+    let mut first = [0u32; 64];
+    let mut work = [0u32; 64];
     let mut p = Progress {
         at: 0,
         records: 0,
         started: false,
         mode: Mode::Plain,
         chosen: false,
-        first: Polynomial::ZERO,
-        work: Polynomial::ZERO,
+        first: 0,
+        work: 0,
         head,
         closed: false,
         claim: 0,
     };
     while p.at < bytes.len() {
-        let step = on_record(bytes, p, terms, weights, counts);
+        let step = on_record(bytes, p, &mut first, &mut work, terms, weights, counts);
         let progress = step.progress;
         p = progress;
         let turn = step.turn;

@@ -6,7 +6,9 @@ use mathlib.Core.List.{List, [], _∷_, _++_, map}
 use Prim.Native.Nat.{ℕ, _-_, _^_, _<_}
 use lib.Dec.{T, eqb, eqb→eq}
 use lib.Bits.{bitOr}
+use lib.ListN.{length, replicate}
 use lib.Pow.{pow-pos}
+use lib.Seq.{take-at}
 use Rattle.term.specs.Term.{value, before}
 use Rattle.run.specs.Boolean.{both, is-true, cond-ind, of-true}
 use Rattle.term.specs.TermLaws.{value-or, value-one, value-self, below-value, value-below}
@@ -14,7 +16,8 @@ use Rattle.term.specs.OrderLaws.{before-irrefl, before-trans, before-total, val
 use Rattle.run.specs.F2.{_⊕_, ⊕-assoc, ⊕-left, ⊕-cancel, ⊕-self, ⊕-zero, &&-⊕, ⊕-&&, ⊕-false}
 use Rattle.run.specs.Run.{StrictOrder, toggleBy, normalBy, After, Sorted, All, odd}
 use Rattle.run.specs.RunLaws.{odd-append, odd-normal, odd-unique, normal-all, normal-sorted, all-append}
-use Rattle.polynomial.specs.Polynomial.{eval, normal, unions, sumOf, productOf, Ordered, Uses, Below}
+use Rattle.polynomial.specs.Polynomial.{eval, normal, unions, sumOf, productOf, Ordered, Uses, Below, termsOf, polynomialOf}
+use Rattle.polynomial.specs.declared.Polynomial.{Polynomial}
 
 -- the written order is a strict total order
 pub written : StrictOrder before
@@ -148,3 +151,7 @@ product-plus-one n f g a b = unique n (productOf f g₁) (sumOf (productOf f g) 
     at true true = refl
     at true false = refl
     at false y = refl
+
+-- ---- a polynomial by value has the terms that it was made of
+pub terms-of : (l : List ℕ) (p : Polynomial) → p ≡ polynomialOf l → termsOf p ≡ l
+terms-of l p e = rw e (take-at l (replicate (64 - length l) 0) (length l) refl)

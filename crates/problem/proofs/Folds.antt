@@ -2,15 +2,13 @@
 use mathlib.Core.Path.{_≡_, sym, ap, subst, _∙_}
 use mathlib.Core.Bool.{true}
 use mathlib.Core.List.{List, [], _∷_}
-use Prim.Native.Nat.{ℕ, suc, _+_, _^_, _<_}
+use Prim.Native.Nat.{ℕ, suc, _+_, _^_, _≤_, _<_}
 use native.Mathlib.Omega.{arith}
 use lib.Dec.{T, leb, leb→le}
 use lib.IntN.{ℤ, pos, negsuc}
 use lib.Signed.{mag}
-use lib.ListN.{length}
+use lib.ListN.{length, take}
 use Rattle.run.specs.Boolean.{of-true}
-use Rattle.polynomial.specs.Polynomial.{termsOf}
-use Rattle.polynomial.specs.declared.Polynomial.{Polynomial}
 use Rattle.configuration.specs.Configuration.{Line, line, add, addAll, isPolynomial, linesFit, weightsFit}
 use Rattle.configuration.specs.ConfigurationLaws.{all-fit}
 use Rattle.configuration.specs.Memory.{Memory, memoryOf, linesOf, imageOf, wellFormed}
@@ -36,7 +34,7 @@ small-weight (pos n) h = let k = leb→le n 1000000000 (B.right (leb 1 n) (leb n
 small-weight (negsuc n) h = absurd h
 
 -- ---- what is then in the areas
-module _ (p : Progress) (ts : List ℕ) (ws : List ℤ) (cs : List ℕ) (ready : Ready p ts ws cs) (f : List ℕ) (w : ℤ) where
+module _ (p : Progress) (us ts : List ℕ) (ws : List ℤ) (cs : List ℕ) (ready : Ready p us ts ws cs) (f : List ℕ) (w : ℤ) where
   abbrev old : Memory
   old = memoryOf (p .head) ts ws cs
 
@@ -44,46 +42,48 @@ module _ (p : Progress) (ts : List ℕ) (ws : List ℤ) (cs : List ℕ) (ready :
   new = add f w (linesOf old)
 
   abbrev begun : W.Progress State
-  begun = progressOf p ts ws cs
+  begun = progressOf p us ts ws cs
 
   module _ (h : Head) (ts′ : List ℕ) (ws′ : List ℤ) (cs′ : List ℕ) (v : Verdict)
-      (e : replacementOf (memoryOf h ts′ ws′ cs′) v ≡ replaced (line f w ∷ []) old) (size : ℕ) (work : Polynomial) where
+      (e : replacementOf (memoryOf h ts′ ws′ cs′) v ≡ replaced (line f w ∷ []) old) (size left : ℕ) where
     pub judged : Says old (memoryOf h ts′ ws′ cs′) new (within new) v
     unfolding replaced addAll
     judged = says old (memoryOf h ts′ ws′ cs′) new v e
 
     -- where it is refused, all is as it was
     pub kept : (reason : Reason) (r : Step) → r ≡ record { progress = p; turn = Refused reason } → (within new ≡ refused (numberOf reason)) × (memoryOf h ts′ ws′ cs′ ≡ old)
-        → (left-by ts′ ws′ cs′ r ≡ W.after begun (folded begun size (termsOf work) (within new))) × ready-by ts′ ws′ cs′ r
+        → (left-by us ts′ ws′ cs′ r ≡ W.after begun (folded begun size (take left us) (within new))) × ready-by us ts′ ws′ cs′ r
     kept reason r d k =
         rw (ap (λ (m : Memory). m .terms) (k .1), ap (λ (m : Memory). m .weights) (k .1), ap (λ (m : Memory). m .counts) (k .1))
-        (turned-down ts ws cs p ready r reason (folded begun size (termsOf work) (within new)) d (sym (ap (folded begun size (termsOf work)) (k .0))))
+        (turned-down us ts ws cs p ready r reason (folded begun size (take left us) (within new)) d (sym (ap (folded begun size (take left us)) (k .0))))
 
     -- where it is done, the lines are the new ones, and they may be held
-    module _ (hf : T (isPolynomial (p .head .variables) f)) (hw : T (isPolynomial (p .head .variables) (termsOf work))) (some : 0 < size)
+    module _ (hf : T (isPolynomial (p .head .variables) f)) (b : left ≤ 64) (hw : T (isPolynomial (p .head .variables) (take left us))) (some : 0 < size)
         (k : (within new ≡ taken new) × (memoryOf h ts′ ws′ cs′ ≡ imageOf 128 (p .head .variables) new) × (leb (length new) 128 ≡ true) × (weightsFit new ≡ true)) where
       abbrev next : Progress
-      next = record { at = p .at + size; records = p .records + 1; started = true; head = h; work = work }
+      next = record { at = p .at + size; records = p .records + 1; started = true; head = h; work = left }
 
       fit : T (linesFit (p .head .variables) new)
       unfolding addAll
       fit = all-fit (p .head .variables) (line f w ∷ []) (linesOf old) (hf, tt) (formed-parts 128 old (well-formed old (ready .well)) .fit)
 
-      done-step : _≡_ {A = W.Walked (W.Progress State)} (record { reached = progressOf next ts′ ws′ cs′; stop = W.nothing })
-          (W.after begun (folded begun size (termsOf work) (within new)))
+      done-step : _≡_ {A = W.Walked (W.Progress State)} (record { reached = progressOf next us ts′ ws′ cs′; stop = W.nothing })
+          (W.after begun (folded begun size (take left us) (within new)))
       done-step =
           let one : p .records + 1 ≡ suc (p .records) = omega arith in
           let lines : linesOf (memoryOf h ts′ ws′ cs′) ≡ new = ap linesOf (k .1) ∙ there-and-back 128 (p .head .variables) new (fits-short (p .head .variables) new fit) in
           rw (k .0, one, ap (λ (m : Memory). m .variables) (k .1), lines)
 
-      done-ready : Ready next ts′ ws′ cs′
+      done-ready : Ready next us ts′ ws′ cs′
       done-ready = record {
         well = subst (λ (m : Memory). T (wellFormed m)) (sym (k .1)) (image-wellFormed (p .head .variables) new (leb→le (length new) 128 (of-true (k .2))) (variables-bound old (ready .well)) fit (of-true (k .3)));
         polynomial = rw (ap (λ (m : Memory). m .variables) (k .1)) hw;
         fresh = λ n. absurd n;
+        area = ready .area;
+        room = b;
         counted = let c = ready .counted in omega arith;
       }
 
       pub done : (r : Step) → r ≡ record { progress = next; turn = Accepted }
-          → (left-by ts′ ws′ cs′ r ≡ W.after begun (folded begun size (termsOf work) (within new))) × ready-by ts′ ws′ cs′ r
-      done r d = (ap (left-by ts′ ws′ cs′) d ∙ done-step, subst (ready-by ts′ ws′ cs′) (sym d) done-ready)
+          → (left-by us ts′ ws′ cs′ r ≡ W.after begun (folded begun size (take left us) (within new))) × ready-by us ts′ ws′ cs′ r
+      done r d = (ap (left-by us ts′ ws′ cs′) d ∙ done-step, subst (ready-by us ts′ ws′ cs′) (sym d) done-ready)

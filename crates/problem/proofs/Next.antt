@@ -6,9 +6,8 @@ use Prim.Native.Nat.{ℕ, suc, _+_, _≤_, _<_}
 use native.Mathlib.Omega.{arith}
 use lib.Dec.{T}
 use lib.IntN.{ℤ}
+use lib.ListN.{length, take}
 use Rattle.run.specs.Boolean.{of-true}
-use Rattle.polynomial.specs.Polynomial.{termsOf}
-use Rattle.polynomial.specs.declared.Polynomial.{Polynomial}
 use Rattle.configuration.specs.Configuration.{isPolynomial, linesFit, weightsFit}
 use Rattle.configuration.specs.FormLaws.{none-polynomial}
 use Rattle.configuration.specs.Memory.{Memory, memoryOf, readLines, imageOf, wellFormed}
@@ -16,7 +15,7 @@ use Rattle.configuration.specs.MemoryLaws.{image-wellFormed}
 use Rattle.configuration.specs.declared.Head.{Head}
 use Rattle.refusal.specs.Refusal.{numberOf}
 use Rattle.refusal.specs.declared.Reason.{Reason}
-use Rattle.walk.specs.Walk.{Outcome, accepted, turnedDown, past, nothing, stopOf, Walked, after}
+use Rattle.walk.specs.Walk.{Outcome, accepted, turnedDown, past, stopOf, Walked, after}
 use Rattle.walk.specs.declared.Turn.the-variants.{Accepted, Refused}
 use Rattle.problem.specs.Problem.{State, having}
 use Rattle.problem.specs.Held.{progressOf, Ready}
@@ -24,59 +23,88 @@ use Rattle.problem.specs.declared.Progress.{Progress}
 use Rattle.problem.specs.declared.Step.{Step}
 use Rattle.walk.specs.Walk as W
 
-module _ (ts : List ℕ) (ws : List ℤ) (cs : List ℕ) where
+module _ (us ts : List ℕ) (ws : List ℤ) (cs : List ℕ) where
   abbrev pub left-by : Step → Walked (W.Progress State)
-  left-by r = record { reached = progressOf (r .progress) ts ws cs; stop = stopOf (r .turn) }
+  left-by r = record { reached = progressOf (r .progress) us ts ws cs; stop = stopOf (r .turn) }
 
   abbrev pub ready-by : Step → Type 0
-  ready-by r = Ready (r .progress) ts ws cs
+  ready-by r = Ready (r .progress) us ts ws cs
 
-  module _ (p : Progress) (ready : Ready p ts ws cs) (r : Step) where
+module _ (us ts : List ℕ) (ws : List ℤ) (cs : List ℕ) (p : Progress) (ready : Ready p us ts ws cs) (r : Step) where
+  module _ (reason : Reason) (x : Outcome (W.Progress State)) (e : r ≡ record { progress = p; turn = Refused reason })
+      (k : turnedDown (numberOf reason) ≡ x) where
     -- a refused record leaves all as it was
-    pub turned-down : (reason : Reason) (x : Outcome (W.Progress State)) → r ≡ record { progress = p; turn = Refused reason } → turnedDown (numberOf reason) ≡ x
-        → (left-by r ≡ after (progressOf p ts ws cs) x) × ready-by r
-    turned-down reason x e k = (ap left-by e ∙ ap (after (progressOf p ts ws cs)) k, subst ready-by (sym e) ready)
+    pub turned-down : (left-by us ts ws cs r ≡ after (progressOf p us ts ws cs) x) × ready-by us ts ws cs r
+    turned-down = (ap (left-by us ts ws cs) e ∙ ap (after (progressOf p us ts ws cs)) k, subst (ready-by us ts ws cs) (sym e) ready)
 
-    module _ (size : ℕ) (h : Head) (work : Polynomial)
-        (e : r ≡ record { progress = record { at = p .at + size; records = p .records + 1; started = true; head = h; work = work }; turn = Accepted }) where
-      one-more : p .records + 1 ≡ suc (p .records)
-      one-more = omega arith
+    -- M: behind the work polynomial the area may change
+    pub term-down : (vs : List ℕ) → length vs ≡ 64 → take (p .work) vs ≡ take (p .work) us
+        → (left-by vs ts ws cs r ≡ after (progressOf p us ts ws cs) x) × ready-by vs ts ws cs r
+    term-down vs a m = (
+      ap (left-by vs ts ws cs) e ∙ rw m (ap (after (progressOf p us ts ws cs)) k),
+      subst (ready-by vs ts ws cs) (sym e) (record {
+        well = ready .well;
+        polynomial = rw m (ready .polynomial);
+        fresh = rw m (ready .fresh);
+        area = a;
+        room = ready .room;
+        counted = ready .counted;
+      }),
+    )
 
-      -- V: nothing was held, and nothing is
-      pub set : p .started ≡ false → h .lines ≡ 0 → h .variables ≤ 32 → termsOf work ≡ [] → 0 < size → (x : Outcome (W.Progress State))
-          → accepted (past (progressOf p ts ws cs) size (record { started = true; variables = h .variables; work = []; lines = [] })) ≡ x
-          → (left-by r ≡ after (progressOf p ts ws cs) x) × ready-by r
-      unfolding readLines linesFit weightsFit
-      set n l v w z x k =
-          let f : memoryOf (p .head) ts ws cs ≡ imageOf 128 0 [] = ready .fresh (of-true (ap not n)) .0 in
-          let m : memoryOf h ts ws cs ≡ imageOf 128 (h .variables) [] =
-          rw l (ap (λ (m : Memory). record { variables = h .variables; lines = 0; terms = m .terms; weights = m .weights; counts = m .counts }) f) in (
-            ap left-by e ∙ rw (one-more, l, w) (ap (after (progressOf p ts ws cs)) k),
-            subst ready-by (sym e) (record {
-              well = subst (λ (m : Memory). T (wellFormed m)) (sym m) (image-wellFormed (h .variables) [] (omega arith) v tt tt);
-              polynomial = rw w (none-polynomial (h .variables));
-              fresh = λ n. absurd n;
-              counted = let c = ready .counted in omega arith;
-            }),
-          )
+  module _ (size : ℕ) (h : Head) (work : ℕ)
+      (e : r ≡ record { progress = record { at = p .at + size; records = p .records + 1; started = true; head = h; work = work }; turn = Accepted }) where
+    one-more : p .records + 1 ≡ suc (p .records)
+    one-more = omega arith
 
-      -- M: the lines stay, and the sum is a polynomial again
-      pub summed : T (isPolynomial (p .head .variables) (termsOf work)) → h ≡ p .head → 0 < size → (x : Outcome (W.Progress State))
-          → (let q = progressOf p ts ws cs in accepted (past q size (having (termsOf work) (q .state .lines) (q .state))) ≡ x)
-          → (left-by r ≡ after (progressOf p ts ws cs) x) × ready-by r
-      summed g d z x k = (
-        ap left-by e ∙ rw (one-more, d) (ap (after (progressOf p ts ws cs)) k),
-        subst ready-by (sym e) (record {
-          well = rw d (ready .well);
-          polynomial = rw d g;
-          fresh = λ n. absurd n;
-          counted = let c = ready .counted in omega arith;
-        }),
-      )
+    -- V: nothing was held, and nothing is
+    pub set : p .started ≡ false → h .lines ≡ 0 → h .variables ≤ 32 → work ≡ 0 → 0 < size → (x : Outcome (W.Progress State))
+        → accepted (past (progressOf p us ts ws cs) size (record { started = true; variables = h .variables; work = []; lines = [] })) ≡ x
+        → (left-by us ts ws cs r ≡ after (progressOf p us ts ws cs) x) × ready-by us ts ws cs r
+    unfolding readLines linesFit weightsFit
+    set n l v w z x k =
+        let f : memoryOf (p .head) ts ws cs ≡ imageOf 128 0 [] = ready .fresh (of-true (ap not n)) .0 in
+        let m : memoryOf h ts ws cs ≡ imageOf 128 (h .variables) [] =
+        rw l (ap (λ (m : Memory). record { variables = h .variables; lines = 0; terms = m .terms; weights = m .weights; counts = m .counts }) f) in (
+          ap (left-by us ts ws cs) e ∙ rw (one-more, l, w) (ap (after (progressOf p us ts ws cs)) k),
+          subst (ready-by us ts ws cs) (sym e) (record {
+            well = subst (λ (m : Memory). T (wellFormed m)) (sym m) (image-wellFormed (h .variables) [] (omega arith) v tt tt);
+            polynomial = rw w (none-polynomial (h .variables));
+            fresh = λ n. absurd n;
+            area = ready .area;
+            room = omega arith;
+            counted = let c = ready .counted in omega arith;
+          }),
+        )
+
+    -- M: the lines stay, and the sum is a polynomial again
+    pub summed : (vs : List ℕ) → length vs ≡ 64 → work ≤ 64 → T (isPolynomial (p .head .variables) (take work vs)) → h ≡ p .head → 0 < size
+        → (x : Outcome (W.Progress State))
+        → (let q = progressOf p us ts ws cs in accepted (past q size (having (take work vs) (q .state .lines) (q .state))) ≡ x)
+        → (left-by vs ts ws cs r ≡ after (progressOf p us ts ws cs) x) × ready-by vs ts ws cs r
+    summed vs a b g d z x k = (
+      ap (left-by vs ts ws cs) e ∙ rw (one-more, d) (ap (after (progressOf p us ts ws cs)) k),
+      subst (ready-by vs ts ws cs) (sym e) (record {
+        well = rw d (ready .well);
+        polynomial = rw d g;
+        fresh = λ n. absurd n;
+        area = a;
+        room = b;
+        counted = let c = ready .counted in omega arith;
+      }),
+    )
 
 -- what holds for all areas that are ready: the answer, and that they are ready again
-pub for-all : (p : Progress) (r : Step) (x : W.Progress State → Outcome (W.Progress State))
-    → ((ts : List ℕ) (ws : List ℤ) (cs : List ℕ) → Ready p ts ws cs → (left-by ts ws cs r ≡ after (progressOf p ts ws cs) (x (progressOf p ts ws cs))) × ready-by ts ws cs r)
-    → ((ts : List ℕ) (ws : List ℤ) (cs : List ℕ) → Ready p ts ws cs → left-by ts ws cs r ≡ after (progressOf p ts ws cs) (x (progressOf p ts ws cs)))
-    × ((ts : List ℕ) (ws : List ℤ) (cs : List ℕ) → Ready p ts ws cs → ready-by ts ws cs r)
-for-all p r x f = (λ ts ws cs h. f ts ws cs h .0, λ ts ws cs h. f ts ws cs h .1)
+module _ (p : Progress) (r : Step) (x : W.Progress State → Outcome (W.Progress State)) where
+  abbrev Answered : List ℕ → List ℕ → List ℕ → List ℤ → List ℕ → Type 0
+  Answered us vs ts ws cs = left-by vs ts ws cs r ≡ after (progressOf p us ts ws cs) (x (progressOf p us ts ws cs))
+
+  pub for-lines : (us vs : List ℕ) → ((ts : List ℕ) (ws : List ℤ) (cs : List ℕ) → Ready p us ts ws cs → Answered us vs ts ws cs × ready-by vs ts ws cs r)
+      → ((ts : List ℕ) (ws : List ℤ) (cs : List ℕ) → Ready p us ts ws cs → Answered us vs ts ws cs)
+      × ((ts : List ℕ) (ws : List ℤ) (cs : List ℕ) → Ready p us ts ws cs → ready-by vs ts ws cs r)
+  for-lines us vs f = (λ ts ws cs h. f ts ws cs h .0, λ ts ws cs h. f ts ws cs h .1)
+
+  pub for-all : ((us ts : List ℕ) (ws : List ℤ) (cs : List ℕ) → Ready p us ts ws cs → Answered us us ts ws cs × ready-by us ts ws cs r)
+      → ((us ts : List ℕ) (ws : List ℤ) (cs : List ℕ) → Ready p us ts ws cs → Answered us us ts ws cs)
+      × ((us ts : List ℕ) (ws : List ℤ) (cs : List ℕ) → Ready p us ts ws cs → ready-by us ts ws cs r)
+  for-all f = (λ us. for-lines us us (f us) .0, λ us. for-lines us us (f us) .1)

@@ -2,22 +2,20 @@
 use mathlib.Core.Path.{_≡_, refl, sym, ap, ap₂, _∙_}
 use mathlib.Core.Bool.{Bool, true, false, cond, not, _&&_}
 use mathlib.Core.List.{List, []}
-use Prim.Native.Nat.{ℕ, suc, min, _+_, _-_, _^_, _≤_, _<_}
+use Prim.Native.Nat.{ℕ, suc, _+_, _-_, _^_, _≤_, _<_}
 use native.Mathlib.Omega.{arith}
-use lib.Dec.{leb, ltb, eqb}
+use lib.Dec.{leb, ltb}
 use lib.IntN.{ℤ}
-use lib.ListN.{length, getD, replicate}
-use lib.Seq.{take-at}
-use borrow.Author.Tests.{lt-leb, le-leb, eq-eqb, ne-eqb, not-true, not-false}
+use lib.ListN.{length, getD}
+use borrow.Author.Tests.{lt-leb, le-leb, ne-eqb}
 use Rattle.polynomial.specs.Polynomial.{clauseOf, termsOf, outcomeOf}
 use Rattle.polynomial.specs.declared.Outcome.{Outcome as Made}
-use Rattle.polynomial.specs.declared.Polynomial.{Polynomial}
-use Rattle.configuration.specs.Configuration.{some, add}
+use Rattle.configuration.specs.Configuration.{add}
 use Rattle.configuration.specs.Replacement.{within}
 use Rattle.record.specs.Record.{whole, numberAt, signedAt, byteIn, amountIn, clauseIn}
 use Rattle.walk.specs.Walk.{Outcome, accepted, turnedDown, unless, mapped, Progress, past, nothing, refusedFor}
 use Rattle.walk.specs.Work.{termAdded}
-use Rattle.walk.proofs.Adds.{held-none}
+use Rattle.polynomial.specs.PolynomialLaws.{terms-of}
 use Rattle.problem.specs.Problem.{State, having, weightFits, folded, onVariables, onTerm, onWeight, onClause, onRecord, Told, filed, refusedAt, verdict}
 use Rattle.record.proofs.Bodies.{byte-cut, byte-whole, amount-cut, amount-whole, clause-cut, clause-whole}
 use Rattle.record.specs.declared.Byte.the-variants as B
@@ -151,7 +149,7 @@ module _ (s : List ℕ) (q : Progress State) (e : q .state .started ≡ true) wh
 pub outcome-terms : (l : List ℕ) (o : Made) → o ≡ outcomeOf l → o .length ≤ 64 → (termsOf (o .polynomial) ≡ l) × (length l ≤ 64)
 outcome-terms l o e h =
     let k : length l ≤ 64 = rw e at h in
-    (ap (λ (o : Made). termsOf (o .polynomial)) e ∙ rw (le-leb (length l) 64 k) (take-at l (replicate (64 - length l) 0) (length l) refl), k)
+    (terms-of l (o .polynomial) (ap (λ (o : Made). o .polynomial) e ∙ rw (le-leb (length l) 64 k)), k)
 
 -- ---- by its kind
 module _ (s : List ℕ) (q : Progress State) where
@@ -178,26 +176,15 @@ module _ (s : List ℕ) (q : Progress State) where
   unfolding onRecord
   no-kind a b c d = rw (ne-eqb kind 86 a, ne-eqb kind 77 b, ne-eqb kind 87 c, ne-eqb kind 67 d)
 
--- ---- the end
-module _ (work : Polynomial) (k : ℕ) (m : k ≡ min (work .count) 64) (l : length (work .terms) ≡ 64) where
-  is-none : not (some (termsOf work)) ≡ eqb k 0
-  is-none = sym (held-none (work .count) (work .terms) l) ∙ ap (λ (j : ℕ). eqb j 0) (sym m)
-
-  pub work-some : (k ≡ 0 → ⊥) → some (termsOf work) ≡ true
-  work-some n = not-false (some (termsOf work)) (is-none ∙ ne-eqb k 0 n)
-
-  pub work-none : k ≡ 0 → some (termsOf work) ≡ false
-  work-none e = not-true (some (termsOf work)) (is-none ∙ eq-eqb k 0 e)
-
--- the answer at the end, whether V came and whether the work polynomial is empty
+-- ---- the end: the answer, whether V came and whether the work polynomial is empty
 abbrev pub ending : ℕ → Bool → Bool → Told
-ending k b c = verdict k (cond (b && not c) nothing (refusedFor 15))
+ending k b c = verdict k (cond (b && c) nothing (refusedFor 15))
 
 pub no-start : (k : ℕ) (b c : Bool) → b ≡ false → refusedAt (k + 1) 15 ≡ ending k b c
 no-start k b c e = let one : k + 1 ≡ suc k = omega arith in rw (e, one)
 
-pub work-left : (k : ℕ) (b c : Bool) → b ≡ true → c ≡ true → refusedAt (k + 1) 15 ≡ ending k b c
+pub work-left : (k : ℕ) (b c : Bool) → b ≡ true → c ≡ false → refusedAt (k + 1) 15 ≡ ending k b c
 work-left k b c e d = let one : k + 1 ≡ suc k = omega arith in rw (e, d, one)
 
-pub all-filed : (k : ℕ) (b c : Bool) → b ≡ true → c ≡ false → filed ≡ ending k b c
+pub all-filed : (k : ℕ) (b c : Bool) → b ≡ true → c ≡ true → filed ≡ ending k b c
 all-filed k b c e d = rw (e, d)

@@ -2,13 +2,11 @@
 use mathlib.Core.Path.{_≡_, refl, sym, ap, ap₂, subst}
 use mathlib.Core.Bool.{false}
 use mathlib.Core.List.{List, []}
-use Prim.Native.Nat.{ℕ, suc, _+_, _-_}
+use Prim.Native.Nat.{ℕ, suc, _+_}
 use native.Mathlib.Omega.{arith}
 use lib.Dec.{T}
 use lib.IntN.{ℤ}
 use lib.ListN.{length}
-use Rattle.polynomial.specs.Polynomial.{termsOf}
-use Rattle.polynomial.specs.declared.Polynomial.{Polynomial}
 use Rattle.configuration.specs.Configuration.{linesFit, weightsFit}
 use Rattle.configuration.specs.FormLaws.{none-polynomial, sized-not, sized-is}
 use Rattle.configuration.specs.Memory.{Memory, memoryOf, readLines, imageOf, wellFormed}
@@ -17,7 +15,7 @@ use Rattle.configuration.specs.declared.Head.{Head}
 use Rattle.refusal.specs.Refusal.{numberOf}
 use Rattle.refusal.specs.declared.Reason.{Reason}
 use Rattle.refusal.specs.declared.Reason.the-variants.{WrongLength}
-use Rattle.walk.specs.Walk.{Stop, refusedFor, Walked, walk, readAll}
+use Rattle.walk.specs.Walk.{Stop, refusedFor, Walked, readAll}
 use Rattle.walk.proofs.Leads.{Leads, begins}
 use Rattle.problem.specs.Problem.{State, empty, filing, Told, refusedAt, toldOf, verdict, leftOf, leaves, lent, fileProblem}
 use Rattle.problem.specs.Held.{progressOf, Ready}
@@ -27,39 +25,41 @@ use Rattle.problem.specs.declared.Answer.the-variants.{Refused}
 use Rattle.walk.specs.Walk as W
 
 -- ---- the beginning
-module _ (h : Head) (work : Polynomial) (ts : List ℕ) (ws : List ℤ) (cs : List ℕ) (e : memoryOf h ts ws cs ≡ imageOf 128 0 []) (n : termsOf work ≡ []) where
+module _ (h : Head) (us ts : List ℕ) (ws : List ℤ) (cs : List ℕ) (e : memoryOf h ts ws cs ≡ imageOf 128 0 []) where
   abbrev first : Progress
-  first = record { at = 0; records = 0; started = false; head = h; work = work }
+  first = record { at = 0; records = 0; started = false; head = h; work = 0 }
 
-  pub first-ready : Ready first ts ws cs
+  pub first-ready : length us ≡ 64 → Ready first us ts ws cs
   unfolding linesFit weightsFit
-  first-ready = record {
+  first-ready a = record {
     well = subst (λ (m : Memory). T (wellFormed m)) (sym e) (image-wellFormed 0 [] (omega arith) (omega arith) tt tt);
-    polynomial = rw n (none-polynomial (h .variables));
-    fresh = λ z. (e, n);
+    polynomial = none-polynomial (h .variables);
+    fresh = λ z. (e, refl);
+    area = a;
+    room = omega arith;
     counted = omega arith;
   }
 
-  pub first-leads : (s : List ℕ) → Leads filing s (readAll filing s empty) (progressOf first ts ws cs)
+  pub first-leads : (s : List ℕ) → Leads filing s (readAll filing s empty) (progressOf first us ts ws cs)
   unfolding readLines
   first-leads s =
-      begins filing s (readAll filing s empty) (progressOf first ts ws cs) refl (rw (ap (λ (m : Memory). m .variables) e, n, ap (λ (m : Memory). m .lines) e))
+      begins filing s (readAll filing s empty) (progressOf first us ts ws cs) refl (rw (ap (λ (m : Memory). m .variables) e, ap (λ (m : Memory). m .lines) e))
 
 -- ---- what the areas hold where the walk ends
 abbrev stopped : W.Progress State → Stop → Walked (W.Progress State)
 stopped q x = record { reached = q; stop = x }
 
-pub left-there : (p : Progress) (ts : List ℕ) (ws : List ℤ) (cs : List ℕ) (a : Answer) (x : Stop) → Ready p ts ws cs → toldOf a ≡ verdict (p .records) x
-    → leftOf (memoryOf (p .head) ts ws cs) a ≡ leaves (stopped (progressOf p ts ws cs) x)
-left-there p ts ws cs a x h k =
+pub left-there : (p : Progress) (us ts : List ℕ) (ws : List ℤ) (cs : List ℕ) (a : Answer) (x : Stop) → Ready p us ts ws cs → toldOf a ≡ verdict (p .records) x
+    → leftOf (memoryOf (p .head) ts ws cs) a ≡ leaves (stopped (progressOf p us ts ws cs) x)
+left-there p us ts ws cs a x h k =
     let m : Memory = memoryOf (p .head) ts ws cs in
     ap₂ (λ (m : Memory) (t : Told). record { memory = m; told = t }) (formed-image 128 m (well-formed m (h .well))) k
 
-pub left-refused : (p : Progress) (ts : List ℕ) (ws : List ℤ) (cs : List ℕ) (reason : Reason) → Ready p ts ws cs
-    → leftOf (memoryOf (p .head) ts ws cs) (Refused (p .records + 1) reason) ≡ leaves (stopped (progressOf p ts ws cs) (refusedFor (numberOf reason)))
-left-refused p ts ws cs reason h =
+pub left-refused : (p : Progress) (us ts : List ℕ) (ws : List ℤ) (cs : List ℕ) (reason : Reason) → Ready p us ts ws cs
+    → leftOf (memoryOf (p .head) ts ws cs) (Refused (p .records + 1) reason) ≡ leaves (stopped (progressOf p us ts ws cs) (refusedFor (numberOf reason)))
+left-refused p us ts ws cs reason h =
     let one : p .records + 1 ≡ suc (p .records) = omega arith in
-    left-there p ts ws cs (Refused (p .records + 1) reason) (refusedFor (numberOf reason)) h (ap (λ (k : ℕ). refusedAt k (numberOf reason)) one)
+    left-there p us ts ws cs (Refused (p .records + 1) reason) (refusedFor (numberOf reason)) h (ap (λ (k : ℕ). refusedAt k (numberOf reason)) one)
 
 -- ---- the lengths of the areas
 module _ (s : List ℕ) (ts : List ℕ) (ws : List ℤ) (cs : List ℕ) where

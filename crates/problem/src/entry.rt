@@ -6,6 +6,7 @@ use configuration::Verdict;
 use configuration::form::is_term;
 use configuration::replace::add;
 use polynomial::Polynomial;
+use polynomial::load;
 use record::Amount;
 use record::Byte;
 use record::Clause;
@@ -21,7 +22,7 @@ ghost use mathlib.Core.List.{List};
 ghost use Prim.Native.Nat.{ℕ, _+_, _≤_, _<_};
 ghost use lib.Dec.{T};
 ghost use lib.IntN.{ℤ};
-ghost use lib.ListN.{length};
+ghost use lib.ListN.{length, take};
 ghost use Rattle.polynomial.specs.Polynomial.{termsOf};
 ghost use Rattle.configuration.specs.Configuration.{add as addTo, isPolynomial};
 ghost use Rattle.configuration.specs.Memory.{linesIn};
@@ -50,8 +51,8 @@ pub fn refused(p: Progress, reason: Reason) -> Step
     }
 }
 
-// An accepted record of so many bytes.
-fn accepted(p: Progress, size: usize, head: Head, work: Polynomial) -> Step
+// An accepted record of so many bytes, which leaves a head and a work polynomial of so many terms.
+fn accepted(p: Progress, size: usize, head: Head, work: usize) -> Step
     requires { ⌜ (p .at + size < 18446744073709551616) × (p .records < 18446744073709551615) ⌝ }
     ensures { λ r. ⌜ r ≡ record { progress = record { at = p .at + size; records = p .records + 1; started = true; head = head; work = work }; turn = Turn.Accepted } ⌝ }
 {
@@ -70,8 +71,8 @@ fn accepted(p: Progress, size: usize, head: Head, work: Polynomial) -> Step
 // V: the number of variables.
 pub fn on_variables(bytes: &[u8], p: Progress) -> Step
     requires { ⌜ (p .at < length (now bytes)) × (p .records ≤ p .at) ⌝ }
-    ensures step { λ r. ⌜ ((ts : List ℕ) (ws : List ℤ) (cs : List ℕ) → Ready p ts ws cs → record { reached = progressOf (r .progress) ts ws cs; stop = stopOf (r .turn) } ≡ after (progressOf p ts ws cs) (onVariables (now (bytes .entry)) (progressOf p ts ws cs))) ⌝ }
-    ensures ready { λ r. ⌜ ((ts : List ℕ) (ws : List ℤ) (cs : List ℕ) → Ready p ts ws cs → Ready (r .progress) ts ws cs) ⌝ }
+    ensures step { λ r. ⌜ ((us ts : List ℕ) (ws : List ℤ) (cs : List ℕ) → Ready p us ts ws cs → record { reached = progressOf (r .progress) us ts ws cs; stop = stopOf (r .turn) } ≡ after (progressOf p us ts ws cs) (onVariables (now (bytes .entry)) (progressOf p us ts ws cs))) ⌝ }
+    ensures ready { λ r. ⌜ ((us ts : List ℕ) (ws : List ℤ) (cs : List ℕ) → Ready p us ts ws cs → Ready (r .progress) us ts ws cs) ⌝ }
 {
     if p.started {
         return refused(p, Reason::Misplaced);
@@ -86,46 +87,47 @@ pub fn on_variables(bytes: &[u8], p: Progress) -> Step
         variables: variables as u32,
         lines: 0,
     };
-    accepted(p, 2, head, Polynomial::ZERO)
+    accepted(p, 2, head, 0)
 }
 
 // M: a term is added to the work polynomial.
-pub fn on_term(bytes: &[u8], p: Progress) -> Step
-    requires { ⌜ (p .at < length (now bytes)) × (p .records ≤ p .at) ⌝ }
-    ensures step { λ r. ⌜ ((ts : List ℕ) (ws : List ℤ) (cs : List ℕ) → Ready p ts ws cs → record { reached = progressOf (r .progress) ts ws cs; stop = stopOf (r .turn) } ≡ after (progressOf p ts ws cs) (onTerm (now (bytes .entry)) (progressOf p ts ws cs))) ⌝ }
-    ensures ready { λ r. ⌜ ((ts : List ℕ) (ws : List ℤ) (cs : List ℕ) → Ready p ts ws cs → Ready (r .progress) ts ws cs) ⌝ }
+pub fn on_term(bytes: &[u8], p: Progress, work: &mut [u32]) -> Step
+    requires { ⌜ (p .at < length (now bytes)) × (p .records ≤ p .at) × (length (now work) ≡ 64) × (p .work ≤ 64) × T (isPolynomial (p .head .variables) (take (p .work) (now work))) ⌝ }
+    ensures step { λ r. ⌜ ((ts : List ℕ) (ws : List ℤ) (cs : List ℕ) → Ready p (now (work .entry)) ts ws cs → record { reached = progressOf (r .progress) (now (work .exit)) ts ws cs; stop = stopOf (r .turn) } ≡ after (progressOf p (now (work .entry)) ts ws cs) (onTerm (now (bytes .entry)) (progressOf p (now (work .entry)) ts ws cs))) ⌝ }
+    ensures ready { λ r. ⌜ ((ts : List ℕ) (ws : List ℤ) (cs : List ℕ) → Ready p (now (work .entry)) ts ws cs → Ready (r .progress) (now (work .exit)) ts ws cs) ⌝ }
 {
     if !p.started {
         return refused(p, Reason::Misplaced);
     }
     let head = p.head;
-    let added = add_term(head.variables, bytes, p.at + 1, p.work);
+    let added = add_term(head.variables, bytes, p.at + 1, work, p.work);
     let turn = added.turn;
     if let Turn::Refused(reason) = turn {
         return refused(p, reason);
     }
-    accepted(p, 5, head, added.polynomial)
+    accepted(p, 5, head, added.count)
 }
 
-// Folds a weighted polynomial in: the record that brings it has so many bytes and leaves a work polynomial.
+// Folds a weighted polynomial in: the record that brings it has so many bytes and leaves a work polynomial of so many terms.
 fn fold(
     p: Progress,
     size: usize,
     f: Polynomial,
     weight: i64,
-    work: Polynomial,
+    left: usize,
+    work: &[u32],
     terms: &mut [u32],
     weights: &mut [i64],
     counts: &mut [u32],
 ) -> Step
-    requires { ⌜ Ready p (now terms) (now weights) (now counts) × T (isPolynomial (p .head .variables) (termsOf f)) × T (isPolynomial (p .head .variables) (termsOf work)) × T (weightFits weight) × (0 < size) × (p .at + size < 18446744073709551616) ⌝ }
-    ensures step { λ r. ⌜ record { reached = progressOf (r .progress) (now (terms .exit)) (now (weights .exit)) (now (counts .exit)); stop = stopOf (r .turn) } ≡ after (progressOf p (now (terms .entry)) (now (weights .entry)) (now (counts .entry))) (folded (progressOf p (now (terms .entry)) (now (weights .entry)) (now (counts .entry))) size (termsOf work) (within (addTo (termsOf f) weight (linesIn (p .head) (now (terms .entry)) (now (weights .entry)) (now (counts .entry)))))) ⌝ }
-    ensures ready { λ r. ⌜ Ready (r .progress) (now (terms .exit)) (now (weights .exit)) (now (counts .exit)) ⌝ }
+    requires { ⌜ Ready p (now work) (now terms) (now weights) (now counts) × T (isPolynomial (p .head .variables) (termsOf f)) × (left ≤ 64) × T (isPolynomial (p .head .variables) (take left (now work))) × T (weightFits weight) × (0 < size) × (p .at + size < 18446744073709551616) ⌝ }
+    ensures step { λ r. ⌜ record { reached = progressOf (r .progress) (now (work .entry)) (now (terms .exit)) (now (weights .exit)) (now (counts .exit)); stop = stopOf (r .turn) } ≡ after (progressOf p (now (work .entry)) (now (terms .entry)) (now (weights .entry)) (now (counts .entry))) (folded (progressOf p (now (work .entry)) (now (terms .entry)) (now (weights .entry)) (now (counts .entry))) size (take left (now (work .entry))) (within (addTo (termsOf f) weight (linesIn (p .head) (now (terms .entry)) (now (weights .entry)) (now (counts .entry)))))) ⌝ }
+    ensures ready { λ r. ⌜ Ready (r .progress) (now (work .entry)) (now (terms .exit)) (now (weights .exit)) (now (counts .exit)) ⌝ }
 {
     let done = add(p.head, terms, weights, counts, f, weight);
     let verdict = done.verdict;
     match verdict {
-        Verdict::Done => accepted(p, size, done.head, work),
+        Verdict::Done => accepted(p, size, done.head, left),
         Verdict::TooManyLines => refused(p, Reason::TooManyLines),
         Verdict::WeightTooLarge => refused(p, Reason::WeightTooLarge),
     }
@@ -135,13 +137,14 @@ fn fold(
 pub fn on_weight(
     bytes: &[u8],
     p: Progress,
+    work: &[u32],
     terms: &mut [u32],
     weights: &mut [i64],
     counts: &mut [u32],
 ) -> Step
-    requires { ⌜ (p .at < length (now bytes)) × Ready p (now terms) (now weights) (now counts) ⌝ }
-    ensures step { λ r. ⌜ record { reached = progressOf (r .progress) (now (terms .exit)) (now (weights .exit)) (now (counts .exit)); stop = stopOf (r .turn) } ≡ after (progressOf p (now (terms .entry)) (now (weights .entry)) (now (counts .entry))) (onWeight (now (bytes .entry)) (progressOf p (now (terms .entry)) (now (weights .entry)) (now (counts .entry)))) ⌝ }
-    ensures ready { λ r. ⌜ Ready (r .progress) (now (terms .exit)) (now (weights .exit)) (now (counts .exit)) ⌝ }
+    requires { ⌜ (p .at < length (now bytes)) × Ready p (now work) (now terms) (now weights) (now counts) ⌝ }
+    ensures step { λ r. ⌜ record { reached = progressOf (r .progress) (now (work .entry)) (now (terms .exit)) (now (weights .exit)) (now (counts .exit)); stop = stopOf (r .turn) } ≡ after (progressOf p (now (work .entry)) (now (terms .entry)) (now (weights .entry)) (now (counts .entry))) (onWeight (now (bytes .entry)) (progressOf p (now (work .entry)) (now (terms .entry)) (now (weights .entry)) (now (counts .entry)))) ⌝ }
+    ensures ready { λ r. ⌜ Ready (r .progress) (now (work .entry)) (now (terms .exit)) (now (weights .exit)) (now (counts .exit)) ⌝ }
 {
     if !p.started {
         return refused(p, Reason::Misplaced);
@@ -152,21 +155,23 @@ pub fn on_weight(
     if !weight_fits(weight) {
         return refused(p, Reason::OutOfRange);
     }
-    let nothing = Polynomial::ZERO;
-    fold(p, 9, p.work, weight, nothing, terms, weights, counts)
+    let count = p.work;
+    let f = load(&work[..count]);
+    fold(p, 9, f, weight, 0, work, terms, weights, counts)
 }
 
 // C: a clause is added at a weight; the work polynomial is untouched.
 pub fn on_clause(
     bytes: &[u8],
     p: Progress,
+    work: &[u32],
     terms: &mut [u32],
     weights: &mut [i64],
     counts: &mut [u32],
 ) -> Step
-    requires { ⌜ (p .at < length (now bytes)) × Ready p (now terms) (now weights) (now counts) ⌝ }
-    ensures step { λ r. ⌜ record { reached = progressOf (r .progress) (now (terms .exit)) (now (weights .exit)) (now (counts .exit)); stop = stopOf (r .turn) } ≡ after (progressOf p (now (terms .entry)) (now (weights .entry)) (now (counts .entry))) (onClause (now (bytes .entry)) (progressOf p (now (terms .entry)) (now (weights .entry)) (now (counts .entry)))) ⌝ }
-    ensures ready { λ r. ⌜ Ready (r .progress) (now (terms .exit)) (now (weights .exit)) (now (counts .exit)) ⌝ }
+    requires { ⌜ (p .at < length (now bytes)) × Ready p (now work) (now terms) (now weights) (now counts) ⌝ }
+    ensures step { λ r. ⌜ record { reached = progressOf (r .progress) (now (work .entry)) (now (terms .exit)) (now (weights .exit)) (now (counts .exit)); stop = stopOf (r .turn) } ≡ after (progressOf p (now (work .entry)) (now (terms .entry)) (now (weights .entry)) (now (counts .entry))) (onClause (now (bytes .entry)) (progressOf p (now (work .entry)) (now (terms .entry)) (now (weights .entry)) (now (counts .entry)))) ⌝ }
+    ensures ready { λ r. ⌜ Ready (r .progress) (now (work .entry)) (now (terms .exit)) (now (weights .exit)) (now (counts .exit)) ⌝ }
 {
     if !p.started {
         return refused(p, Reason::Misplaced);
@@ -189,5 +194,5 @@ pub fn on_clause(
         return refused(p, Reason::TooManyTerms);
     }
     let f = clause.polynomial;
-    fold(p, 17, f, weight, p.work, terms, weights, counts)
+    fold(p, 17, f, weight, p.work, work, terms, weights, counts)
 }

@@ -8,17 +8,14 @@ use entry::on_term;
 use entry::on_variables;
 use entry::on_weight;
 use entry::refused;
-use polynomial::Polynomial;
-use polynomial::held;
 use refusal::Reason;
 use walk::Turn;
 ghost use mathlib.Core.Path.{_≡_};
-ghost use mathlib.Core.Bool.{cond, not, _&&_};
+ghost use mathlib.Core.Bool.{cond, _&&_};
 ghost use mathlib.Core.List.{[]};
 ghost use Prim.Native.Nat.{_<_};
+ghost use lib.Dec.{eqb};
 ghost use lib.ListN.{length};
-ghost use Rattle.polynomial.specs.Polynomial.{termsOf};
-ghost use Rattle.configuration.specs.Configuration.{some};
 ghost use Rattle.configuration.specs.Memory.{memoryOf, imageOf};
 ghost use Rattle.walk.specs.Walk.{nothing, refusedFor, stopOf, after, readAll};
 ghost use Rattle.problem.specs.Problem.{empty, onRecord, filing, toldOf, verdict, leftOf, leaves, lent, fileProblem};
@@ -36,14 +33,14 @@ pub struct Report {
     pub answer: Answer,
 }
 
-// How far a filing has come: where the next record begins, how many are accepted, whether V was among them, the head, the
-// work polynomial.
+// How far a filing has come: where the next record begins, how many are accepted, whether V was among them, the head, and how
+// many terms the work polynomial has. Its terms stand at the front of an area of 64.
 pub struct Progress {
     pub at: usize,
     pub records: u64,
     pub started: bool,
     pub head: Head,
-    pub work: Polynomial,
+    pub work: usize,
 }
 
 // The progress that one record leaves, and the answer for it. A refused record leaves all as it was.
@@ -56,13 +53,14 @@ pub struct Step {
 fn on_record(
     bytes: &[u8],
     p: Progress,
+    work: &mut [u32],
     terms: &mut [u32],
     weights: &mut [i64],
     counts: &mut [u32],
 ) -> Step
-    requires { ⌜ (p .at < length (now bytes)) × Ready p (now terms) (now weights) (now counts) ⌝ }
-    ensures step { λ r. ⌜ record { reached = progressOf (r .progress) (now (terms .exit)) (now (weights .exit)) (now (counts .exit)); stop = stopOf (r .turn) } ≡ after (progressOf p (now (terms .entry)) (now (weights .entry)) (now (counts .entry))) (onRecord (now (bytes .entry)) (progressOf p (now (terms .entry)) (now (weights .entry)) (now (counts .entry)))) ⌝ }
-    ensures ready { λ r. ⌜ Ready (r .progress) (now (terms .exit)) (now (weights .exit)) (now (counts .exit)) ⌝ }
+    requires { ⌜ (p .at < length (now bytes)) × Ready p (now work) (now terms) (now weights) (now counts) ⌝ }
+    ensures step { λ r. ⌜ record { reached = progressOf (r .progress) (now (work .exit)) (now (terms .exit)) (now (weights .exit)) (now (counts .exit)); stop = stopOf (r .turn) } ≡ after (progressOf p (now (work .entry)) (now (terms .entry)) (now (weights .entry)) (now (counts .entry))) (onRecord (now (bytes .entry)) (progressOf p (now (work .entry)) (now (terms .entry)) (now (weights .entry)) (now (counts .entry)))) ⌝ }
+    ensures ready { λ r. ⌜ Ready (r .progress) (now (work .exit)) (now (terms .exit)) (now (weights .exit)) (now (counts .exit)) ⌝ }
 {
     let at = p.at;
     let kind = bytes[at];
@@ -70,13 +68,13 @@ fn on_record(
         return on_variables(bytes, p);
     }
     if kind == b'M' {
-        return on_term(bytes, p);
+        return on_term(bytes, p, work);
     }
     if kind == b'W' {
-        return on_weight(bytes, p, terms, weights, counts);
+        return on_weight(bytes, p, work, terms, weights, counts);
     }
     if kind == b'C' {
-        return on_clause(bytes, p, terms, weights, counts);
+        return on_clause(bytes, p, work, terms, weights, counts);
     }
     refused(p, Reason::Misplaced)
 }
@@ -84,13 +82,12 @@ fn on_record(
 // The end of the bytes: V must have come, and the work polynomial be empty.
 fn finish(p: Progress) -> Answer
     requires { ⌜ p .records < 18446744073709551615 ⌝ }
-    ensures { λ r. ⌜ toldOf r ≡ verdict (p .records) (cond (p .started && not (some (termsOf (p .work)))) nothing (refusedFor 15)) ⌝ }
+    ensures { λ r. ⌜ toldOf r ≡ verdict (p .records) (cond (p .started && eqb (p .work) 0) nothing (refusedFor 15)) ⌝ }
 {
-    let work = p.work;
     if !p.started {
         return Answer::Refused(p.records + 1, Reason::Unfinished);
     }
-    if held(work) != 0 {
+    if p.work != 0 {
         return Answer::Refused(p.records + 1, Reason::Unfinished);
     }
     Answer::Filed
@@ -107,15 +104,16 @@ fn read_records(
     requires { ⌜ memoryOf head (now terms) (now weights) (now counts) ≡ imageOf 128 0 [] ⌝ }
     ensures { λ r. ⌜ leftOf (memoryOf (r .head) (now (terms .exit)) (now (weights .exit)) (now (counts .exit))) (r .answer) ≡ leaves (readAll filing (now (bytes .entry)) empty) ⌝ }
 {
+    let mut work = [0u32; 64];
     let mut p = Progress {
         at: 0,
         records: 0,
         started: false,
         head,
-        work: Polynomial::ZERO,
+        work: 0,
     };
     while p.at < bytes.len() {
-        let step = on_record(bytes, p, terms, weights, counts);
+        let step = on_record(bytes, p, &mut work, terms, weights, counts);
         let progress = step.progress;
         p = progress;
         let turn = step.turn;

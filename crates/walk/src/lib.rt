@@ -1,13 +1,14 @@
 // Records one after the other, as far as both files have them in common: the answer for one record, and the record M.
 use configuration::form::is_term;
-use polynomial::Polynomial;
-use polynomial::load;
+use polynomial::toggle::toggle;
 use record::Mask;
 use record::read_mask;
 use refusal::Reason;
 ghost use mathlib.Core.Path.{_≡_};
-ghost use Rattle.polynomial.specs.Polynomial.{termsOf, polynomialOf};
-ghost use Rattle.walk.specs.Walk.{stopOf, mapped, after};
+ghost use Prim.Native.Nat.{_≤_};
+ghost use lib.ListN.{length, take};
+ghost use Rattle.polynomial.specs.Polynomial.{Ordered};
+ghost use Rattle.walk.specs.Walk.{stopOf, after};
 ghost use Rattle.walk.specs.Work.{termAdded};
 
 // Whether a record is accepted, or for which reason it is not.
@@ -16,40 +17,41 @@ pub enum Turn {
     Refused(Reason),
 }
 
-// The work polynomial that a record leaves, and the answer for the record.
+// How many terms the work polynomial has after a record, and the answer for the record.
 pub struct Work {
-    pub polynomial: Polynomial,
+    pub count: usize,
     pub turn: Turn,
 }
 
 // A record that leaves the work polynomial as it was.
-fn refused(work: Polynomial, reason: Reason) -> Work
-    ensures { λ r. ⌜ r ≡ record { polynomial = work; turn = Turn.Refused reason } ⌝ }
+fn refused(count: usize, reason: Reason) -> Work
+    ensures { λ r. ⌜ r ≡ record { count = count; turn = Turn.Refused reason } ⌝ }
 {
     Work {
-        polynomial: work,
+        count,
         turn: Turn::Refused(reason),
     }
 }
 
-// M: adds the term whose mask stands at a place to the work polynomial. A term that is there vanishes.
-pub fn add_term(variables: u32, bytes: &[u8], at: usize, work: Polynomial) -> Work
-    ensures { λ r. ⌜ record { reached = r .polynomial; stop = stopOf (r .turn) } ≡ after work (mapped polynomialOf (termAdded variables (now (bytes .entry)) at (termsOf work))) ⌝ }
+// M: adds the term whose mask stands at a place in the bytes to the work polynomial, whose terms stand in so many places at
+// the front of an area of 64. A term that is there vanishes.
+pub fn add_term(variables: u32, bytes: &[u8], at: usize, work: &mut [u32], count: usize) -> Work
+    requires { ⌜ (length (now work) ≡ 64) × (count ≤ 64) × Ordered (take count (now work)) ⌝ }
+    ensures sum { λ r. ⌜ record { reached = take (r .count) (now (work .exit)); stop = stopOf (r .turn) } ≡ after (take count (now (work .entry))) (termAdded variables (now (bytes .entry)) at (take count (now (work .entry)))) ⌝ }
+    ensures room { λ r. ⌜ r .count ≤ 64 ⌝ }
 {
     let Mask::Whole(mask) = read_mask(bytes, at) else {
-        return refused(work, Reason::CutShort);
+        return refused(count, Reason::CutShort);
     };
     if !is_term(variables, mask) {
-        return refused(work, Reason::UnknownVariable);
+        return refused(count, Reason::UnknownVariable);
     }
-    let term = [mask];
-    let sum = Polynomial::sum(load(&term), work);
-    if 64 < sum.length {
-        return refused(work, Reason::TooManyTerms);
+    let sum = toggle(work, count, mask);
+    if 64 < sum {
+        return refused(count, Reason::TooManyTerms);
     }
-    let polynomial = sum.polynomial;
     Work {
-        polynomial,
+        count: sum,
         turn: Turn::Accepted,
     }
 }

@@ -1,11 +1,11 @@
 -- `read_records` meets its contract. The invariant: what is left to walk from the progress on gives the whole walk.
-use mathlib.Core.Path.{_≡_, refl}
-use Prim.Native.Nat.{_-_}
+use mathlib.Core.Path.{_≡_, refl, sym}
+use mathlib.Core.List.{List}
+use Prim.Native.Nat.{ℕ, _-_}
 use native.Mathlib.Omega.{arith}
-use lib.ListN.{length}
+use lib.ListN.{length, replicate}
 use denote.Ref.{now}
 use borrow.Author.Needs.{needs}
-use Rattle.run.specs.Boolean.{left}
 use Rattle.derivation.specs.Derivation.{checking}
 use Rattle.derivation.specs.Held.{progressOf}
 use Rattle.walk.specs.Walk.{walk}
@@ -14,41 +14,53 @@ use Rattle.derivation.proofs.read_records.Statement.{statement}
 use Rattle.derivation.proofs.read_records.Tie as tie
 
 abbrev Inv-loop : tie.InvT-loop
-Inv-loop bytes terms₀ weights₀ counts₀ p₀ terms weights counts p =
+Inv-loop bytes terms₀ weights₀ counts₀ first₀ work₀ p₀ terms weights counts first work p =
     let n = p₀ .head .variables in
-    Walks n bytes (walk (checking n) (length bytes) bytes (progressOf p₀ terms₀ weights₀ counts₀)) p terms weights counts
+    Walks n bytes (walk (checking n) (length bytes) bytes (progressOf p₀ first₀ work₀ terms₀ weights₀ counts₀)) p first work terms weights counts
     × (length terms ≡ length terms₀) × (length weights ≡ length weights₀) × (length counts ≡ length counts₀)
 
 abbrev μ-loop : tie.MeasureT-loop
-μ-loop bytes terms₀ weights₀ counts₀ p₀ terms weights counts p = length bytes - p .records
+μ-loop bytes terms₀ weights₀ counts₀ first₀ work₀ p₀ terms weights counts first work p = length bytes - p .records
 
 -- ---- one record
 abbrev start : tie.After-on-record Inv-loop μ-loop → tie.Start Inv-loop μ-loop
-start k = k .before .before .before .before .before .before .before .before .before .before
+start k = k .before .before .before .before .before .before .before .before .before .before .before .before
 
 loop-holds : tie.Need-loop-holds Inv-loop μ-loop
 loop-holds c =
     let s = c .before .before .before in
     let a = s .args in
-    (starts (now (a .bytes)) _ (now (a .terms)) (now (a .weights)) (now (a .counts)) (s .pre) refl refl refl refl, refl, refl, refl)
+    let zeros : List ℕ = replicate 64 0 in (
+      starts (now (a .bytes)) _ zeros zeros (now (a .terms)) (now (a .weights)) (now (a .counts)) (s .pre) refl refl refl refl refl refl,
+      refl,
+      refl,
+      refl,
+    )
+
+slice-aggregate-on-record : tie.Need-slice-aggregate-on-record Inv-loop μ-loop
+slice-aggregate-on-record c = sym (c .before .before .before .loop .inv .0 .0 .first-area)
+
+slice-aggregate-on-record-2 : tie.Need-slice-aggregate-on-record-2 Inv-loop μ-loop
+slice-aggregate-on-record-2 c = sym (c .before .before .before .before .loop .inv .0 .0 .area)
 
 on-record-requires : tie.Need-on-record-requires Inv-loop μ-loop
 on-record-requires c κs =
-    let l = c .before .before .before .before .before .loop in
-    (c .before .before .before .if1 .taken, ready-now _ (l .p) (l .terms) (l .weights) (l .counts) (l .inv .0 .0))
+    let l = c .before .before .before .before .before .before .before .loop in
+    (c .before .before .before .before .before .if1 .taken, ready-now _ (l .p) (l .first) (l .work) (l .terms) (l .weights) (l .counts) (l .inv .0 .0))
 
 enum-known-turn : tie.Need-enum-known-turn Inv-loop μ-loop
 enum-known-turn c = search needs
 
-add-t27 : tie.Need-add-t27 Inv-loop μ-loop
-add-t27 c =
-    let k = c .before .before .before .before .before .before .before .before .before .before .before in
-    let l = k .before .before .before .before .before .before .loop in
+add-t29 : tie.Need-add-t29 Inv-loop μ-loop
+add-t29 c =
+    let k = c .before .before .before .before .before .before .before .before .before .before .before .before .before in
+    let l = k .before .before .before .before .before .before .before .before .loop in
     let s = start k .args in
     let r = k .on-record in
-    let h = refused-count (s .head .variables) (now (s .bytes)) _ (l .p) (l .terms) (l .weights) (l .counts) (l .inv .0) (k .before .before .before .before .if1 .taken)
-    (r .result) (r .last .1 .1 .0) (r .last .1 .1 .1 .0) (r .last .1 .1 .1 .1 .0) (r .ensures .0) (r .ensures .1) (c .before .before .before .turn .given .0 .0)
-    (c .before .before .before .turn .given .1) in
+    let h = refused-count (s .head .variables) (now (s .bytes)) _ (l .p) (l .first) (l .work) (l .terms) (l .weights) (l .counts) (l .inv .0)
+    (k .before .before .before .before .before .before .if1 .taken) (r .result)
+    (r .last .1 .1 .0) (r .last .1 .1 .1 .0) (r .last .1 .1 .1 .1 .0) (r .last .1 .1 .1 .1 .1 .0) (r .last .1 .1 .1 .1 .1 .1 .0)
+    (r .ensures .0) (r .ensures .1) (c .before .before .before .turn .given .0 .0) (c .before .before .before .turn .given .1) in
     record { fits = omega (arith, h, start k .good .0) }
 
 same-length : tie.Need-same-length Inv-loop μ-loop
@@ -62,34 +74,39 @@ same-length-3 c = search needs
 
 returns : tie.Need-returns Inv-loop μ-loop
 returns c =
-    let k = c .before .before .before .before .before .before .before .before .before .before .before in
-    let l = k .before .before .before .before .before .before .loop in
+    let k = c .before .before .before .before .before .before .before .before .before .before .before .before .before in
+    let l = k .before .before .before .before .before .before .before .before .loop in
     let s = start k .args in
     let r = k .on-record in
-    refused-there (s .head .variables) (now (s .bytes)) _ (l .p) (l .terms) (l .weights) (l .counts) (l .inv .0) (k .before .before .before .before .if1 .taken)
-    (r .result) (r .last .1 .1 .0) (r .last .1 .1 .1 .0) (r .last .1 .1 .1 .1 .0) (r .ensures .0) (r .ensures .1) (c .before .before .before .turn .given .0 .0)
-    (c .before .before .before .turn .given .1)
+    refused-there (s .head .variables) (now (s .bytes)) _ (l .p) (l .first) (l .work) (l .terms) (l .weights) (l .counts) (l .inv .0)
+    (k .before .before .before .before .before .before .if1 .taken) (r .result)
+    (r .last .1 .1 .0) (r .last .1 .1 .1 .0) (r .last .1 .1 .1 .1 .0) (r .last .1 .1 .1 .1 .1 .0) (r .last .1 .1 .1 .1 .1 .1 .0)
+    (r .ensures .0) (r .ensures .1) (c .before .before .before .turn .given .0 .0) (c .before .before .before .turn .given .1)
 
 enum-told : tie.Need-enum-told Inv-loop μ-loop
 enum-told c = search needs
 
 loop-less : tie.Need-loop-less Inv-loop μ-loop
 loop-less c =
-    let k = c .before .before .before .before .before .before .before .before in
-    let l = k .before .before .before .before .before .before .loop in
+    let k = c .before .before .before .before .before .before .before .before .before .before in
+    let l = k .before .before .before .before .before .before .before .before .loop in
     let s = start k .args in
     let r = k .on-record in
-    fewer (s .head .variables) (now (s .bytes)) _ (l .p) (l .terms) (l .weights) (l .counts) (l .inv .0) (k .before .before .before .before .if1 .taken) (r .result)
-    (r .last .1 .1 .0) (r .last .1 .1 .1 .0) (r .last .1 .1 .1 .1 .0) (r .ensures .0) (r .ensures .1) (c .enum-told .given .1)
+    fewer (s .head .variables) (now (s .bytes)) _ (l .p) (l .first) (l .work) (l .terms) (l .weights) (l .counts) (l .inv .0)
+    (k .before .before .before .before .before .before .if1 .taken) (r .result)
+    (r .last .1 .1 .0) (r .last .1 .1 .1 .0) (r .last .1 .1 .1 .1 .0) (r .last .1 .1 .1 .1 .1 .0) (r .last .1 .1 .1 .1 .1 .1 .0)
+    (r .ensures .0) (r .ensures .1) (c .enum-told .given .1)
 
 loop-again : tie.Need-loop-again Inv-loop μ-loop
 loop-again c =
-    let k = c .before .before .before .before .before .before .before .before in
-    let l = k .before .before .before .before .before .before .loop in
+    let k = c .before .before .before .before .before .before .before .before .before .before in
+    let l = k .before .before .before .before .before .before .before .before .loop in
     let s = start k .args in
     let r = k .on-record in (
-      goes-on (s .head .variables) (now (s .bytes)) _ (l .p) (l .terms) (l .weights) (l .counts) (l .inv .0) (k .before .before .before .before .if1 .taken) (r .result)
-          (r .last .1 .1 .0) (r .last .1 .1 .1 .0) (r .last .1 .1 .1 .1 .0) (r .ensures .0) (r .ensures .1) (c .enum-told .given .1),
+      goes-on (s .head .variables) (now (s .bytes)) _ (l .p) (l .first) (l .work) (l .terms) (l .weights) (l .counts) (l .inv .0)
+          (k .before .before .before .before .before .before .if1 .taken) (r .result)
+          (r .last .1 .1 .0) (r .last .1 .1 .1 .0) (r .last .1 .1 .1 .1 .0) (r .last .1 .1 .1 .1 .1 .0) (r .last .1 .1 .1 .1 .1 .1 .0)
+          (r .ensures .0) (r .ensures .1) (c .enum-told .given .1),
       search needs,
       search needs,
       search needs,
@@ -111,8 +128,8 @@ returns-2 : tie.Need-returns-2 Inv-loop μ-loop
 returns-2 c =
     let l = c .before .before .before .before .before .before .before .loop in
     let s = c .before .before .before .before .before .before .before .before .before .before .before .args in
-    ends-there (s .head .variables) (now (s .bytes)) _ (l .p) (l .terms) (l .weights) (l .counts) (l .inv .0) (c .before .before .before .before .before .if1 .left)
-    (c .finish .result) (c .finish .ensures)
+    ends-there (s .head .variables) (now (s .bytes)) _ (l .p) (l .first) (l .work) (l .terms) (l .weights) (l .counts) (l .inv .0)
+    (c .before .before .before .before .before .if1 .left) (c .finish .result) (c .finish .ensures (l .first) (l .work))
 
 pub read-records-spec : {M : Type 1} → statement M
 read-records-spec =
@@ -121,9 +138,11 @@ read-records-spec =
     Inv-loop
     μ-loop
     loop-holds
+    slice-aggregate-on-record
+    slice-aggregate-on-record-2
     on-record-requires
     enum-known-turn
-    add-t27
+    add-t29
     same-length
     same-length-2
     same-length-3

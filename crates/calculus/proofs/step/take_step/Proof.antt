@@ -17,7 +17,8 @@ use Rattle.calculus.specs.Calculus.{step, objected, Left, leftOf, leaves
 use Rattle.calculus.specs.declared.Objection.{Objection}
 use Rattle.calculus.specs.declared.Stepped.{Stepped}
 use Rattle.configuration.specs.FormLaws.{polynomial-short}
-use Rattle.calculus.proofs.Steps.{operands-fit, loaded, other-lengths, not-formed, stepped}
+use Rattle.polynomial.specs.PolynomialLaws.{terms-of}
+use Rattle.calculus.proofs.Steps.{operands-fit, other-lengths, not-formed, stepped}
 use Rattle.calculus.proofs.step.take_step.Statement.{statement}
 use Rattle.calculus.proofs.step.take_step.Tie as tie
 
@@ -160,8 +161,8 @@ step-requires c κs =
     let k = c .before .before .before .before .before in
     let a = start k .args in (
       of-true (whole (k .before .before .before)),
-      rw (loaded (now (a .f)) (c .before .load .result) (c .before .load .ensures)) (operands k .0),
-      rw (loaded (now (a .g)) (c .load2 .result) (c .load2 .ensures)) (operands k .1),
+      rw (terms-of (now (a .f)) (c .before .load .result) (c .before .load .ensures)) (operands k .0),
+      rw (terms-of (now (a .g)) (c .load2 .result) (c .load2 .ensures)) (operands k .1),
     )
 
 same-length-7 : tie.Need-same-length-7
@@ -183,8 +184,8 @@ returns-6 c =
     ≡ leaves (memory s) (taken-with s (termsOf (t .before .before .load .result)) (termsOf (t .before .load2 .result))) =
     rw (toZ-ofZ (s .fits .amount)) at (r .ensures) in
     e
-    ∙ ap₂ (λ (x y : List ℕ). leaves (memory s) (taken-with s x y)) (loaded (now (s .args .f)) (t .before .before .load .result) (t .before .before .load .ensures))
-    (loaded (now (s .args .g)) (t .before .load2 .result) (t .before .load2 .ensures))
+    ∙ ap₂ (λ (x y : List ℕ). leaves (memory s) (taken-with s x y)) (terms-of (now (s .args .f)) (t .before .before .load .result) (t .before .before .load .ensures))
+    (terms-of (now (s .args .g)) (t .before .load2 .result) (t .before .load2 .ensures))
     ∙ ap (λ (o : Objection). leaves (memory s) (objected o (taken-with s (now (s .args .f)) (now (s .args .g))))) (sym (k .enum-told .given .1))
     ∙ found (k .before .before)
 

@@ -1,8 +1,7 @@
--- `is_idle` meets its contract: a polynomial that takes up no place has no term.
+-- `is_idle` meets its contract: the tests stand in its order.
 use mathlib.Core.Path.{sym, _∙_}
 use borrow.Author.Tests.{not-true, not-false}
 use borrow.Author.Needs.{needs}
-use Rattle.walk.proofs.Adds.{held-none}
 use Rattle.derivation.proofs.entry.is_idle.Statement.{statement}
 use Rattle.derivation.proofs.entry.is_idle.Tie as tie
 
@@ -15,13 +14,8 @@ returns c = rw (sym (c .before .is-going .ensures) ∙ not-true _ (c .if1 .taken
 returns-2 : tie.Need-returns-2
 returns-2 c = rw (sym (c .before .before .is-going .ensures) ∙ not-false _ (c .before .if1 .left), c .if2 .taken)
 
-held-requires : tie.Need-held-requires
-held-requires c κs = search needs
-
 returns-3 : tie.Need-returns-3
-returns-3 c =
-    rw (sym (c .before .before .before .is-going .ensures) ∙ not-false _ (c .before .before .if1 .left), c .before .if2 .left, c .held .ensures .0)
-    (held-none (c .before .before .before .before .args .p .work .count) (c .before .before .before .before .args .p .work .terms) (c .held .ensures .1))
+returns-3 c = rw (sym (c .before .before .before .is-going .ensures) ∙ not-false _ (c .before .before .if1 .left), c .before .if2 .left)
 
 pub is-idle-spec : {M : Type 1} → statement M
-is-idle-spec = tie.close (tie.spec is-going-requires returns returns-2 held-requires returns-3)
+is-idle-spec = tie.close (tie.spec is-going-requires returns returns-2 returns-3)

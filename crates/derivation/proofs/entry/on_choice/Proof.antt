@@ -1,17 +1,12 @@
--- `on_choice` meets its contract: f is set once, and the work polynomial is then empty.
-use mathlib.Core.List.{[]}
+-- `on_choice` meets its contract: f is set once, to the terms that are copied, and the work polynomial is then empty.
 use mathlib.Core.Path.{sym, _∙_}
-use mathlib.Core.Bool.{true}
-use native.Mathlib.Numerals.{add-one}
-use native.Mathlib.Omega.{arith}
+use denote.Ref.{now}
 use borrow.Author.Tests.{not-true, not-false}
 use borrow.Author.Needs.{needs}
 use Rattle.refusal.specs.declared.Reason.the-variants.{Misplaced}
-use Rattle.configuration.specs.FormLaws.{none-polynomial}
-use Rattle.polynomial.specs.Polynomial.{polynomialOf}
 use Rattle.derivation.specs.Derivation.{onChoice}
 use Rattle.derivation.specs.Held.{progressOf}
-use Rattle.derivation.proofs.Entries.{refused-step, refused-ready, accepted-step, accepted-ready}
+use Rattle.derivation.proofs.Entries.{turned-down, choice-misplaced, choice-again, choice-up}
 use Rattle.derivation.proofs.entry.on_choice.Statement.{statement}
 use Rattle.derivation.proofs.entry.on_choice.Tie as tie
 
@@ -23,10 +18,17 @@ refused-requires c κs = search needs
 
 returns : tie.Need-returns
 returns c =
-    let p = c .before .before .before .args .p in
+    let a = c .before .before .before .before .before .args in
+    let p = a .p in
+    let n = p .head .variables in
+    let fs = now (a .first) in
+    let us = now (a .work) in
+    let r = c .refused in
     let k = sym (c .before .before .is-going .ensures) ∙ not-true (c .before .before .is-going .result) (c .before .if1 .taken) in (
-      λ ts ws cs ready. refused-step p ts ws cs Misplaced (c .refused .result) (c .refused .ensures) (onChoice (progressOf p ts ws cs)) (rw k),
-      λ ts ws cs ready. refused-ready p ts ws cs Misplaced (c .refused .result) (c .refused .ensures) (p .head .variables) ready,
+      λ ts ws cs ready. turned-down n p fs us ts ws cs ready Misplaced (r .result) (r .ensures) (onChoice (progressOf p fs us ts ws cs))
+          (choice-misplaced p fs us ts ws cs k) .0,
+      λ ts ws cs ready. turned-down n p fs us ts ws cs ready Misplaced (r .result) (r .ensures) (onChoice (progressOf p fs us ts ws cs))
+          (choice-misplaced p fs us ts ws cs k) .1,
     )
 
 refused-requires-2 : tie.Need-refused-requires-2
@@ -34,28 +36,46 @@ refused-requires-2 c κs = search needs
 
 returns-2 : tie.Need-returns-2
 returns-2 c =
-    let p = c .before .before .before .before .args .p in
+    let a = c .before .before .before .before .before .before .args in
+    let p = a .p in
+    let n = p .head .variables in
+    let fs = now (a .first) in
+    let us = now (a .work) in
+    let r = c .refused2 in
     let g = c .before .before .before .is-going in
     let k = sym (g .ensures) ∙ not-false (g .result) (c .before .before .if1 .left) in (
-      λ ts ws cs ready. refused-step p ts ws cs Misplaced (c .refused2 .result) (c .refused2 .ensures) (onChoice (progressOf p ts ws cs)) (rw (k, c .before .if2 .taken)),
-      λ ts ws cs ready. refused-ready p ts ws cs Misplaced (c .refused2 .result) (c .refused2 .ensures) (p .head .variables) ready,
+      λ ts ws cs ready. turned-down n p fs us ts ws cs ready Misplaced (r .result) (r .ensures) (onChoice (progressOf p fs us ts ws cs))
+          (choice-again p fs us ts ws cs k (c .before .if2 .taken)) .0,
+      λ ts ws cs ready. turned-down n p fs us ts ws cs ready Misplaced (r .result) (r .ensures) (onChoice (progressOf p fs us ts ws cs))
+          (choice-again p fs us ts ws cs k (c .before .if2 .taken)) .1,
     )
+
+copy-requires : tie.Need-copy-requires
+copy-requires c κs = search needs
 
 accepted-requires : tie.Need-accepted-requires
 accepted-requires c κs = search needs
 
+same-length : tie.Need-same-length
+same-length c = search needs
+
 returns-3 : tie.Need-returns-3
 returns-3 c =
-    let s = c .before .before .before .before .before .before in
-    let p = s .args .p in
-    let g = c .before .before .before .before .before .is-going in
-    let k = sym (g .ensures) ∙ not-false (g .result) (c .before .before .before .before .if1 .left) in
-    let r = c .accepted .result in
-    let e = c .accepted .ensures in (
-      λ ts ws cs ready. accepted-step p 1 true (p .work) (polynomialOf []) (p .head) ts ws cs r e (progressOf p ts ws cs) (onChoice (progressOf p ts ws cs))
-          (rw (k, c .before .before .before .if2 .left, add-one (p .records))),
-      λ ts ws cs ready. accepted-ready p 1 true (p .work) (polynomialOf []) (p .head) ts ws cs r e (p .head .variables) (omega arith) (s .pre .1)
-          (ready .well) (ready .variables) (ready .polynomial) (none-polynomial (p .head .variables)),
+    let s = c .before .before .before .before .before .before .before .before .before .before in
+    let a = s .args in
+    let p = a .p in
+    let n = p .head .variables in
+    let fs = now (a .first) in
+    let us = now (a .work) in
+    let g = c .before .before .before .before .before .before .before .is-going in
+    let k = sym (g .ensures) ∙ not-false (g .result) (c .before .before .before .before .before .before .if1 .left) in
+    let u = c .before .before .before .before .before .if2 .left in
+    let d = c .before .before .before .copy in
+    let gs = d .last .1 .1 .0 in
+    let l = d .kept .1 .1 .0 ∙ s .pre .2 in
+    let r = c .accepted in (
+      λ ts ws cs ready. choice-up p fs us ts ws cs k u n gs (d .ensures) l ready (r .result) (r .ensures) .0,
+      λ ts ws cs ready. choice-up p fs us ts ws cs k u n gs (d .ensures) l ready (r .result) (r .ensures) .1,
     )
 
 pub on-choice-spec : {M : Type 1} → statement M
@@ -67,5 +87,7 @@ on-choice-spec =
     returns
     refused-requires-2
     returns-2
+    copy-requires
     accepted-requires
+    same-length
     returns-3)

@@ -1,10 +1,10 @@
 -- `on_claim` meets its contract: the claim's tests stand in the definition's order.
 use mathlib.Core.Path.{ap₂, subst, _≡_, sym, ap, _∙_}
-use mathlib.Core.Bool.{true, false, not}
+use mathlib.Core.Bool.{Bool, true, false, not, _&&_}
 use mathlib.Core.List.{List, [], _∷_}
-use Prim.Native.Nat.{ℕ, _+_, _-_, _≤_}
+use Prim.Native.Nat.{ℕ, _+_, _≤_}
 use native.Mathlib.Omega.{arith}
-use lib.Dec.{leb→le}
+use lib.Dec.{leb→le, eqb}
 use lib.IntN.{ℤ}
 use lib.Signed.{ltZ}
 use lib.ListN.{length}
@@ -15,9 +15,10 @@ use denote.Ref.{now}
 use borrow.Author.Tests.{not-true, not-false}
 use borrow.Author.Needs.{needs}
 use Rattle.walk.specs.declared.Turn.the-variants.{Accepted, Refused}
+use Rattle.walk.proofs.Adds.{held-none}
 use Rattle.configuration.specs.WeightLaws.{lower, not-lower}
 use Rattle.derivation.proofs.Entries.{left-by, closing, turned-down, weights-room, isIdle, claim-misplaced, claim-cut, claim-range, claim-negative, claim-high, claim-closed}
-use Rattle.run.specs.Boolean.{of-true, left}
+use Rattle.run.specs.Boolean.{of-true}
 use Rattle.refusal.specs.declared.Reason.the-variants.{Misplaced, CutShort, OutOfRange, NegativeLine, ClaimTooHigh}
 use Rattle.configuration.specs.Configuration.{weight, anyNegative}
 use Rattle.configuration.specs.Memory.{Memory, memoryOf, linesOf}
@@ -42,24 +43,35 @@ abbrev memory : tie.Start → Memory
 memory s = memoryOf (s .args .p .head) (now (s .args .terms)) (now (s .args .weights)) (now (s .args .counts))
 
 abbrev progress : tie.Start → W.Progress State
-progress s = progressOf (s .args .p) (now (s .args .terms)) (now (s .args .weights)) (now (s .args .counts))
+progress s = progressOf (s .args .p) (now (s .args .first)) (now (s .args .work)) (now (s .args .terms)) (now (s .args .weights)) (now (s .args .counts))
 
 -- a refusal, for the reason that the definition has
-refuse : (s : tie.Start) (reason : Reason) (r : Step) → r ≡ record { progress = s .args .p; turn = Refused reason } → onClaim (bytes s) (progress s) ≡ W.turnedDown (numberOf reason)
+refuse : (s : tie.Start) (reason : Reason) (r : Step) → r ≡ record { progress = s .args .p; turn = Refused reason }
+    → onClaim (bytes s) (progress s) ≡ W.turnedDown (numberOf reason)
     → (let a = s .args in
-    (left-by (now (a .terms)) (now (a .weights)) (now (a .counts)) r ≡ W.after (progress s) (onClaim (bytes s) (progress s)))
-    × Ready (a .p .head .variables) (r .progress) (now (a .terms)) (now (a .weights)) (now (a .counts)))
+    (left-by (now (a .first)) (now (a .work)) (now (a .terms)) (now (a .weights)) (now (a .counts)) r ≡ W.after (progress s) (onClaim (bytes s) (progress s)))
+    × Ready (a .p .head .variables) (r .progress) (now (a .first)) (now (a .work)) (now (a .terms)) (now (a .weights)) (now (a .counts)))
 refuse s reason r e =
     let a = s .args in
-    turned-down (a .p) (now (a .terms)) (now (a .weights)) (now (a .counts)) reason r e (a .p .head .variables) (s .pre .1) (onClaim (bytes s) (progress s))
+    turned-down (a .p .head .variables) (a .p) (now (a .first)) (now (a .work)) (now (a .terms)) (now (a .weights)) (now (a .counts)) (s .pre .1) reason r e
+    (onClaim (bytes s) (progress s))
+
+-- whether nothing is under way, in code and in the definition
+same-idle : (s : tie.Start)
+    → (let a = s .args in
+    isIdle (bytes s) (a .p) (now (a .first)) (now (a .work)) (now (a .terms)) (now (a .weights)) (now (a .counts))
+    ≡ ((a .p .started && not (a .p .closed)) && (not (a .p .chosen) && eqb (a .p .work) 0)))
+same-idle s =
+    let a = s .args in
+    ap (λ (b : Bool). (a .p .started && not (a .p .closed)) && (not (a .p .chosen) && b)) (sym (held-none (a .p .work) (now (a .work)) (s .pre .1 .area)))
 
 -- where nothing is under way
 abbrev start : tie.After-struct-known → tie.Start
-start k = k .before .before .before .before .before .before
+start k = k .before .before .before .before .before .before .before .before
 
 idle : (k : tie.After-struct-known)
-    → (let a = start k .args in isIdle (bytes (start k)) (a .p) (now (a .terms)) (now (a .weights)) (now (a .counts)) ≡ true)
-idle k = let i = k .before .before .is-idle in sym (i .ensures) ∙ not-false (i .result) (k .before .if1 .left)
+    → (let a = start k .args in isIdle (bytes (start k)) (a .p) (now (a .first)) (now (a .work)) (now (a .terms)) (now (a .weights)) (now (a .counts)) ≡ true)
+idle k = let i = k .before .before .is-idle in same-idle (start k) ∙ sym (i .ensures) ∙ not-false (i .result) (k .before .if1 .left)
 
 -- where the claim is tested
 abbrev came : tie.After-claim-fits → tie.Start
@@ -103,12 +115,12 @@ refused-requires c κs = search needs
 
 returns : tie.Need-returns
 returns c =
-    let s = c .before .before .before .before .before .before in
+    let s = c .before .before .before .before .before .before .before .before in
     let a = s .args in
     let p = a .p in
-    let k = sym (c .before .before .is-idle .ensures) ∙ not-true (c .before .before .is-idle .result) (c .before .if1 .taken) in
+    let k = same-idle s ∙ sym (c .before .before .is-idle .ensures) ∙ not-true (c .before .before .is-idle .result) (c .before .if1 .taken) in
     refuse s Misplaced (c .refused .result) (c .refused .ensures)
-    (claim-misplaced (bytes s) p (now (a .terms)) (now (a .weights)) (now (a .counts)) k)
+    (claim-misplaced (bytes s) p (now (a .first)) (now (a .work)) (now (a .terms)) (now (a .weights)) (now (a .counts)) k)
 
 add-read-amount : tie.Need-add-read-amount
 add-read-amount c = search needs
@@ -133,7 +145,7 @@ returns-2 c =
     let p = a .p in
     let d = sym (c .before .before .before .read-amount .ensures) ∙ c .before .enum-told .given .1 in
     refuse s CutShort (c .refused2 .result) (c .refused2 .ensures)
-    (claim-cut (bytes s) p (now (a .terms)) (now (a .weights)) (now (a .counts)) (idle k) d)
+    (claim-cut (bytes s) p (now (a .first)) (now (a .work)) (now (a .terms)) (now (a .weights)) (now (a .counts)) (idle k) d)
 
 claim-fits-requires : tie.Need-claim-fits-requires
 claim-fits-requires c κs = search needs
@@ -149,7 +161,8 @@ returns-3 c =
     let p = a .p in
     let d = sym (tested f) ∙ not-true (f .claim-fits .result) (c .before .if2 .taken) in
     refuse s OutOfRange (c .refused3 .result) (c .refused3 .ensures)
-    (claim-range (bytes s) p (now (a .terms)) (now (a .weights)) (now (a .counts)) (idle (f .before .before .before .before .before)) (claim f) (read f) d)
+    (claim-range (bytes s) p (now (a .first)) (now (a .work)) (now (a .terms)) (now (a .weights)) (now (a .counts))
+    (idle (f .before .before .before .before .before)) (claim f) (read f) d)
 
 cast-none-negative : tie.Need-cast-none-negative
 cast-none-negative c = search needs
@@ -169,7 +182,8 @@ returns-4 c =
     let p = a .p in
     let d = signs g ∙ ap not (not-true (g .none-negative .result) (c .before .if3 .taken)) in
     refuse s NegativeLine (c .refused4 .result) (c .refused4 .ensures)
-    (claim-negative (bytes s) p (now (a .terms)) (now (a .weights)) (now (a .counts)) (idle (f .before .before .before .before .before)) (claim f) (read f) (fits g) d)
+    (claim-negative (bytes s) p (now (a .first)) (now (a .work)) (now (a .terms)) (now (a .weights)) (now (a .counts))
+    (idle (f .before .before .before .before .before)) (claim f) (read f) (fits g) d)
 
 slice-aggregate-weight-of : tie.Need-slice-aggregate-weight-of
 slice-aggregate-weight-of c = search needs
@@ -190,7 +204,9 @@ returns-5 c =
     let p = a .p in
     let l : ltZ (weight (linesOf (memory s)) (0 ∷ [])) (claim f) ≡ true = sym (ap₂ ltZ (weighed w) (claim-is f)) ∙ c .before .if4 .taken in
     refuse s ClaimTooHigh (c .refused5 .result) (c .refused5 .ensures)
-    (claim-high (bytes s) p (now (a .terms)) (now (a .weights)) (now (a .counts)) (idle (f .before .before .before .before .before)) (claim f) (read f) (fits g) (none w) (lower (weight (linesOf (memory s)) (0 ∷ [])) (claim f) l))
+    (claim-high (bytes s) p (now (a .first)) (now (a .work)) (now (a .terms)) (now (a .weights)) (now (a .counts))
+    (idle (f .before .before .before .before .before)) (claim f) (read f) (fits g) (none w)
+    (lower (weight (linesOf (memory s)) (0 ∷ [])) (claim f) l))
 
 closed-with-requires : tie.Need-closed-with-requires
 closed-with-requires c κs =
@@ -210,7 +226,8 @@ returns-6 c =
     let a = s .args in
     let p = a .p in
     let l : ltZ (weight (linesOf (memory s)) (0 ∷ [])) (claim f) ≡ false = sym (ap₂ ltZ (weighed w) (claim-is f)) ∙ c .before .if4 .left in
-    claim-closed (bytes s) p (now (a .terms)) (now (a .weights)) (now (a .counts)) (idle (f .before .before .before .before .before)) (claim f) (read f) (fits g) (none w)
+    claim-closed (bytes s) p (now (a .first)) (now (a .work)) (now (a .terms)) (now (a .weights)) (now (a .counts))
+    (idle (f .before .before .before .before .before)) (claim f) (read f) (fits g) (none w)
     (not-lower (weight (linesOf (memory s)) (0 ∷ [])) (claim f) l)
     (p .head .variables) (s .pre .1) (c .closed-with .result)
     (subst (λ (z : ℤ). c .closed-with .result ≡ record { progress = closing p z; turn = Accepted }) (claim-is f) (c .closed-with .ensures))

@@ -17,7 +17,7 @@ use Rattle.problem.proofs.entry.fold.Statement.{statement}
 use Rattle.problem.proofs.entry.fold.Tie as tie
 
 abbrev start : tie.After-add → tie.Start
-start c = c .before .before .before .before .before .before
+start c = c .before .before .before .before .before .before .before
 
 abbrev memory : tie.Start → Memory
 memory s = memoryOf (s .args .p .head) (now (s .args .terms)) (now (s .args .weights)) (now (s .args .counts))
@@ -37,24 +37,24 @@ told c v e =
     let a = s .args in
     let r = c .add in
     subst (Says (memory s) (last c) (new s) (within (new s))) e
-    (judged (a .p) (now (a .terms)) (now (a .weights)) (now (a .counts)) (s .pre .0) (termsOf (a .f)) (a .weight) (r .result .head) (r .last .1 .0) (r .last .1 .1 .0)
+    (judged (a .p) (now (a .work)) (now (a .terms)) (now (a .weights)) (now (a .counts)) (s .pre .0) (termsOf (a .f)) (a .weight) (r .result .head) (r .last .1 .0) (r .last .1 .1 .0)
     (r .last .1 .1 .1 .0)
-    (r .result .verdict) (replacing c) (a .size) (a .work))
+    (r .result .verdict) (replacing c) (a .size) (a .left))
 
 add-requires : tie.Need-add-requires
 add-requires c κs =
-    let s = c .before .before .before .before .before in
-    (s .pre .0 .well, s .pre .1, rw (toZ-ofZ (s .fits .weight)) (small-weight (s .args .weight) (s .pre .3)))
+    let s = c .before .before .before .before .before .before in
+    (s .pre .0 .well, s .pre .1, rw (toZ-ofZ (s .fits .weight)) (small-weight (s .args .weight) (s .pre .4)))
 
 enum-told : tie.Need-enum-told
 enum-told c = search needs
 
 accepted-requires : tie.Need-accepted-requires
 accepted-requires c κs =
-    let s = c .before .before .before .before .before .before .before .before .before .before .before .before .before in
+    let s = c .before .before .before .before .before .before .before .before .before .before .before .before .before .before in
     let k = s .pre .0 .counted in
-    let l = s .pre .4 in
-    let m = s .pre .5 in
+    let l = s .pre .5 in
+    let m = s .pre .6 in
     (m, omega arith)
 
 enum-told-2 : tie.Need-enum-told-2
@@ -84,8 +84,8 @@ returns c =
     let s = start k in
     let a = s .args in
     let r = k .add in
-    done (a .p) (now (a .terms)) (now (a .weights)) (now (a .counts)) (s .pre .0) (termsOf (a .f)) (a .weight) (r .result .head) (r .last .1 .0) (r .last .1 .1 .0)
-    (r .last .1 .1 .1 .0) (r .result .verdict) (replacing k) (a .size) (a .work) (s .pre .1) (s .pre .2) (s .pre .4) (told k _ (c .before .enum-told .given .1)) (c .accepted .result) (c .accepted .ensures)
+    done (a .p) (now (a .work)) (now (a .terms)) (now (a .weights)) (now (a .counts)) (s .pre .0) (termsOf (a .f)) (a .weight) (r .result .head) (r .last .1 .0) (r .last .1 .1 .0)
+    (r .last .1 .1 .1 .0) (r .result .verdict) (replacing k) (a .size) (a .left) (s .pre .1) (s .pre .2) (s .pre .3) (s .pre .5) (told k _ (c .before .enum-told .given .1)) (c .accepted .result) (c .accepted .ensures)
 
 same-length-4 : tie.Need-same-length-4
 same-length-4 c = search needs
@@ -102,8 +102,8 @@ returns-2 c =
     let s = start k in
     let a = s .args in
     let r = k .add in
-    kept (a .p) (now (a .terms)) (now (a .weights)) (now (a .counts)) (s .pre .0) (termsOf (a .f)) (a .weight) (r .result .head) (r .last .1 .0) (r .last .1 .1 .0)
-    (r .last .1 .1 .1 .0) (r .result .verdict) (replacing k) (a .size) (a .work) TooManyLines (c .refused .result) (c .refused .ensures) (told k _ (c .before .enum-told2 .given .1))
+    kept (a .p) (now (a .work)) (now (a .terms)) (now (a .weights)) (now (a .counts)) (s .pre .0) (termsOf (a .f)) (a .weight) (r .result .head) (r .last .1 .0) (r .last .1 .1 .0)
+    (r .last .1 .1 .1 .0) (r .result .verdict) (replacing k) (a .size) (a .left) TooManyLines (c .refused .result) (c .refused .ensures) (told k _ (c .before .enum-told2 .given .1))
 
 same-length-7 : tie.Need-same-length-7
 same-length-7 c = search needs
@@ -120,8 +120,8 @@ returns-3 c =
     let s = start k in
     let a = s .args in
     let r = k .add in
-    kept (a .p) (now (a .terms)) (now (a .weights)) (now (a .counts)) (s .pre .0) (termsOf (a .f)) (a .weight) (r .result .head) (r .last .1 .0) (r .last .1 .1 .0)
-    (r .last .1 .1 .1 .0) (r .result .verdict) (replacing k) (a .size) (a .work) WeightTooLarge (c .refused2 .result) (c .refused2 .ensures) (told k _ (c .before .enum-told3 .given .1))
+    kept (a .p) (now (a .work)) (now (a .terms)) (now (a .weights)) (now (a .counts)) (s .pre .0) (termsOf (a .f)) (a .weight) (r .result .head) (r .last .1 .0) (r .last .1 .1 .0)
+    (r .last .1 .1 .1 .0) (r .result .verdict) (replacing k) (a .size) (a .left) WeightTooLarge (c .refused2 .result) (c .refused2 .ensures) (told k _ (c .before .enum-told3 .given .1))
 
 pub fold-spec : {M : Type 1} → statement M
 fold-spec =

@@ -1,6 +1,6 @@
 -- `on_clause` meets its contract: the clause is whole, of known variables, its weight in range and its terms at most 64, and it is folded in.
 use mathlib.Core.Path.{_≡_, sym, ap, _∙_}
-use mathlib.Core.Bool.{true, not}
+use mathlib.Core.Bool.{true}
 use Prim.Native.Nat.{ℕ, _+_, _^_, _≤_}
 use native.Mathlib.Omega.{arith}
 use lib.Dec.{ltb, le→leb}
@@ -34,18 +34,18 @@ use Rattle.refusal.specs.declared.Reason.the-variants as R
 use Rattle.problem.proofs.entry.on_clause.Tie as tie
 
 abbrev progress : tie.Start → W.Progress State
-progress s = progressOf (s .args .p) (now (s .args .terms)) (now (s .args .weights)) (now (s .args .counts))
+progress s = progressOf (s .args .p) (now (s .args .work)) (now (s .args .terms)) (now (s .args .weights)) (now (s .args .counts))
 
 -- a refusal, for the reason that the definition has
 refuse : (s : tie.Start) (reason : Reason) (r : Step) → r ≡ record { progress = s .args .p; turn = Refused reason } → turnedDown (numberOf reason) ≡ onClause (now (s .args .bytes)) (progress s)
     → (let a = s .args in
-    (left-by (now (a .terms)) (now (a .weights)) (now (a .counts)) r ≡ after (progress s) (onClause (now (a .bytes)) (progress s)))
-    × ready-by (now (a .terms)) (now (a .weights)) (now (a .counts)) r)
-refuse s reason r = let a = s .args in turned-down (now (a .terms)) (now (a .weights)) (now (a .counts)) (a .p) (s .pre .1) r reason (onClause (now (a .bytes)) (progress s))
+    (left-by (now (a .work)) (now (a .terms)) (now (a .weights)) (now (a .counts)) r ≡ after (progress s) (onClause (now (a .bytes)) (progress s)))
+    × ready-by (now (a .work)) (now (a .terms)) (now (a .weights)) (now (a .counts)) r)
+refuse s reason r = let a = s .args in turned-down (now (a .work)) (now (a .terms)) (now (a .weights)) (now (a .counts)) (a .p) (s .pre .1) r reason (onClause (now (a .bytes)) (progress s))
 
 -- where the weight is tested
 abbrev start : tie.After-weight-fits → tie.Start
-start c = c .before .before .before .before .before .before .before .before .before .before .before .before .before .before .before .before
+start c = c .before .before .before .before .before .before .before .before .before .before .before .before .before .before .before .before .before
 
 abbrev plain : tie.After-weight-fits → ℕ
 plain c = c .before .before .before .before .before .before .before .plain .given .0 .0
@@ -86,7 +86,7 @@ refused-requires c κs = search needs
 
 returns : tie.Need-returns
 returns c =
-    let s = c .before .before .before .before .before .before in
+    let s = c .before .before .before .before .before .before .before in
     refuse s R.Misplaced (c .refused .result) (c .refused .ensures)
     (clause-early (now (s .args .bytes)) (progress s) (not-true _ (c .before .if1 .taken)))
 
@@ -107,7 +107,7 @@ refused-requires-2 c κs = search needs
 
 returns-2 : tie.Need-returns-2
 returns-2 c =
-    let s = c .before .before .before .before .before .before .before .before .before .before in
+    let s = c .before .before .before .before .before .before .before .before .before .before .before in
     refuse s R.CutShort (c .refused2 .result) (c .refused2 .ensures)
     (clause-short (now (s .args .bytes)) (progress s) (not-false _ (c .before .before .before .before .before .if1 .left))
     (sym (c .before .before .before .read-clause .ensures) ∙ c .before .enum-told .given .1))
@@ -120,7 +120,7 @@ refused-requires-3 c κs = search needs
 
 returns-3 : tie.Need-returns-3
 returns-3 c =
-    let s = c .before .before .before .before .before .before .before .before .before .before .before .before .before .before in
+    let s = c .before .before .before .before .before .before .before .before .before .before .before .before .before .before .before in
     refuse s R.UnknownVariable (c .refused3 .result) (c .refused3 .ensures)
     (plain-unknown (now (s .args .bytes)) (progress s) (not-false _ (c .before .before .before .before .before .before .before .before .before .if1 .left)) _ _ _
     (sym (c .before .before .before .before .before .before .before .read-clause .ensures) ∙ c .before .before .before .before .before .plain .given .1)
@@ -135,7 +135,7 @@ refused-requires-4 c κs = search needs
 returns-4 : tie.Need-returns-4
 returns-4 c =
     let k = c .before .before .before .before .before .before .before in
-    let s = k .before .before .before .before .before .before .before .before .before in
+    let s = k .before .before .before .before .before .before .before .before .before .before in
     refuse s R.UnknownVariable (c .refused4 .result) (c .refused4 .ensures)
     (negated-unknown (now (s .args .bytes)) (progress s) (not-false _ (k .before .before .before .before .if1 .left)) _ _ _
     (sym (k .before .before .read-clause .ensures) ∙ k .plain .given .1)
@@ -180,6 +180,7 @@ fold-requires c κs =
     let n = s .args .p .head .variables in (
       s .pre .1,
       rw (made e .0) (clause-polynomial n (plain k) (negated k) (ltb-true _ _ (plain-known k)) (ltb-true _ _ (negated-known k)) (le→leb _ 64 (made e .1))),
+      s .pre .1 .room,
       s .pre .1 .polynomial,
       of-true (sym (k .weight-fits .ensures) ∙ not-false _ (c .before .before .before .before .before .before .before .if4 .left)),
       omega arith,
