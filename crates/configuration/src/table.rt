@@ -8,6 +8,7 @@ use crate::area::move_up;
 use crate::area::remove_weight;
 use crate::area::write;
 use polynomial::Ordering;
+use term::table::byte_degrees;
 ghost use mathlib.Core.Path.{_≡_};
 ghost use mathlib.Core.List.{_++_, _∷_};
 ghost use Prim.Native.Nat.{suc, _+_, _*_, _≤_, _<_, _^_};
@@ -39,12 +40,13 @@ pub fn find(head: Head, terms: &[u32], weights: &[i64], counts: &[u32], f: &[u32
     requires { ⌜ T (formed (length (now counts)) (memoryOf head (now terms) (now weights) (now counts))) ⌝ }
     ensures { λ r. ⌜ (r .at ≡ placeOf (now (f .entry)) (linesIn head (now (terms .entry)) (now (weights .entry)) (now (counts .entry)))) × (r .held ≡ isHeld (now (f .entry)) (linesIn head (now (terms .entry)) (now (weights .entry)) (now (counts .entry)))) ⌝ }
 {
+    let table = byte_degrees();
     let mut low: usize = 0;
     let mut high = head.lines as usize;
     while low < high {
         let middle = low + (high - low) / 2;
         let count = counts[middle] as usize;
-        let order = polynomial::order::compare(f, row(terms, middle, count));
+        let order = polynomial::order::compare_by(&table, f, row(terms, middle, count));
         match order {
             Ordering::Earlier => {
                 high = middle;

@@ -1,5 +1,5 @@
 // Terms: a term is a set of variables, kept as a 32-bit mask.
-mod table;
+pub mod table;
 
 use table::byte_degrees;
 ghost use mathlib.Core.Path.{_≡_};
@@ -37,12 +37,13 @@ pub fn degree(mask: u32) -> u32
     degree_by(&table, mask)
 }
 
-// Whether a stands before b in the written order: the higher degree first, at equal degree the larger mask.
-pub fn precedes(a: u32, b: u32) -> bool
+// Whether a stands before b in the written order: the higher degree first, at equal degree the larger mask. It is for the
+// crate polynomial alone, whose searches take the table once and lend it.
+pub fn precedes_by(table: &[u8; 256], a: u32, b: u32) -> bool
+    requires { ⌜ now table ≡ byteDegrees ⌝ }
     ensures { λ r. ⌜ r ≡ before a b ⌝ }
 {
-    let table = byte_degrees();
-    key_by(&table, b) < key_by(&table, a)
+    key_by(table, b) < key_by(table, a)
 }
 
 // One number for a term, degree * 2^32 + mask: its descending order is the written order.
