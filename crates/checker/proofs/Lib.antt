@@ -1,7 +1,10 @@
+pub mod Calling
 pub mod Filling
 pub mod Holding
 pub mod Lending
+pub mod Locals
 pub mod Operating
 pub mod Outcomes
 pub mod Sharing
+pub mod Slices
 pub mod Walking

@@ -1,4 +1,4 @@
--- What the walks of this crate share: the machine values of a record and of a table, and a loop's count of turns.
+-- What the walks of this crate share: the machine values of a record, of a table and of a head, and a loop's count of turns.
 use mathlib.Core.Path.{_≡_, sym, _∙_, ap, subst}
 use mathlib.Core.WellFounded.{WellFounded, InvImage·wf}
 use mathlib.Core.List.{List, [], _∷_}
@@ -19,6 +19,9 @@ use denote.Steps.{only}
 use denote.Struct.Laws as LL
 use Rattle.checker.specs.declared.Line.{Line}
 use Rattle.checker.specs.declared.table.Table.{Table}
+use Rattle.checker.proofs.Calling.{Datum, struct-datum}
+use Rattle.configuration.proofs.Head as head
+use Rattle.configuration.proofs.Head.Laws as head′
 use Rattle.checker.proofs.Line as line
 use Rattle.checker.proofs.Line.Laws as line′
 use Rattle.checker.proofs.table.Table as table
@@ -62,6 +65,16 @@ module _ {M : Type 1} (𝓤 : URA M) (H : Heap 𝓤) (A : Atoms 𝓤) (W : Given
 
   pub table-typed : (t : Table) (w : Val) → Is B t (w ∷ []) → T (hasTy table′.mir w) × WT w
   table-typed t w is = LL.lawful table.the-type table′.the-laws 𝓤 H A W .typed t (w ∷ []) is .0
+
+-- ---- as plain data that is passed and returned
+abbrev pub line-datum : Datum R
+line-datum = struct-datum line.the-type line′.the-laws line′.the-plain line′.the-copy
+
+abbrev pub table-datum : Datum B
+table-datum = struct-datum table.the-type table′.the-laws table′.the-plain table′.the-copy
+
+abbrev pub head-datum : Datum head.the-row
+head-datum = struct-datum head.the-type head′.the-laws head′.the-plain head′.the-copy
 
 -- ---- the turns of a loop that counts to n, with what is known after each
 module _ (n : ℕ) (P : ℕ → Type 0) where
