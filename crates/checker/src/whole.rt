@@ -1,30 +1,15 @@
 // The whole listing of records that are kept by value, and its code. Both are for the report, whose configurations are known
 // to be well formed.
 use crate::Line;
-use crate::table::Table;
-use crate::table::blank;
-use crate::table::with_line;
+use crate::table::runs_of;
 use configuration::Head;
 ghost use mathlib.Core.Path.{_≡_};
 ghost use Prim.Native.Nat.{_+_, _≤_};
 ghost use lib.Dec.{T};
 ghost use lib.ListN.{length};
 ghost use Rattle.listing.specs.Writing.{overwritten};
-ghost use Rattle.checker.specs.Records.{weightsIn, countsIn, memoryOf, wellFormedIn};
+ghost use Rattle.checker.specs.Records.{memoryOf, wellFormedIn};
 ghost use Rattle.checker.specs.Checker.{listedIn, codeIn};
-
-// The two runs that records are.
-fn runs_of(lines: [Line; 128]) -> Table
-    ensures { λ r. ⌜ r ≡ record { weights = weightsIn lines; counts = countsIn lines } ⌝ }
-{
-    let mut table = blank();
-    let mut i: usize = 0;
-    while i < 128 {
-        table = with_line(table, i, lines[i]);
-        i += 1;
-    }
-    table
-}
 
 // Writes the whole listing from a place in the bytes on.
 pub fn put_listing(
