@@ -23,13 +23,13 @@ use Rattle.polynomial.specs.Polynomial.{eval, normal, productOf, has, pl
 use Rattle.polynomial.specs.PolynomialLaws.{written, eval-append, eval-normal, eval-times, eval-product, eval-one, product-ordered, product-uses, times-uses, uses-below, unique}
 
 -- ---- one variable of a mask
-has-one : (i m : ℕ) → T (has i m) → m / 2 ^ i % 2 ≡ 1
+pub has-one : (i m : ℕ) → T (has i m) → m / 2 ^ i % 2 ≡ 1
 has-one i m h = eqb→eq (m / 2 ^ i % 2) 1 h
 
 one-has : (i m : ℕ) → m / 2 ^ i % 2 ≡ 1 → T (has i m)
 one-has i m e = eq→eqb (m / 2 ^ i % 2) 1 e
 
-has-none : (i m : ℕ) → T (not (has i m)) → m / 2 ^ i % 2 ≡ 0
+pub has-none : (i m : ℕ) → T (not (has i m)) → m / 2 ^ i % 2 ≡ 0
 has-none i m h =
     let other : m / 2 ^ i % 2 ≡ 1 → ⊥ = λ e. T-not (has i m) h (one-has i m e) in
     omega arith
@@ -51,7 +51,7 @@ high-apart : (d s : ℕ) → s < 2 ^ d → bitAnd (2 ^ d) s ≡ 0
 high-apart d s h = rw one-mul at (and-shifted 1 d s h)
 
 -- the last of the first d + 1 variables of a mask, and those before it
-mod-suc : (d m : ℕ) → m % 2 ^ suc d ≡ cond (has d m) (bitOr (2 ^ d) (m % 2 ^ d)) (m % 2 ^ d)
+pub mod-suc : (d m : ℕ) → m % 2 ^ suc d ≡ cond (has d m) (bitOr (2 ^ d) (m % 2 ^ d)) (m % 2 ^ d)
 mod-suc d m = ap (λ (k : ℕ). m % 2 ^ k) (sym (one-add d)) ∙ mod-pow-add m 1 d
     ∙ cond-ind (has d m) (λ (z : ℕ). m / 2 ^ d % 2 * 2 ^ d + m % 2 ^ d ≡ z)
     (λ h. rw (has-one d m h, one-mul) (sym (or-disjoint (2 ^ d) (m % 2 ^ d) (high-apart d (m % 2 ^ d) (mod-lt m (pow-pos d))))))
@@ -184,6 +184,10 @@ subsets-uses (suc d) m k w =
     (λ h. all-append (λ t. T (value t k)) (subsetsOf d m) (map (bitOr (2 ^ d)) (subsetsOf d m)) rest (times-uses k (2 ^ d) (subsetsOf d m) (w d (omega arith) h) rest))
     (λ h. rest)
 
+-- every subset of a mask's variables is within the mask
+pub subsets-within : (d m : ℕ) → Uses m (subsetsOf d m)
+subsets-within d m = subsets-uses d m m (within-value d m m (value-self m))
+
 ⊕-&&-self : (x e : Bool) → e ⊕ (x && e) ≡ (not x && e)
 ⊕-&&-self true e = ⊕-self e
 ⊕-&&-self false e = ⊕-false e
@@ -227,7 +231,7 @@ ones-high : (d s : ℕ) → s < 2 ^ d → ones (bitOr (2 ^ d) s) ≡ suc (ones s
 unfolding ones
 ones-high d s h = ap ones (or-disjoint (2 ^ d) s (high-apart d s h)) ∙ (rw one-mul at (ones-cat d 1 s h)) ∙ one-add (ones s)
 
-subsets-count : (d m : ℕ) → length (subsetsOf d m) ≡ 2 ^ ones (m % 2 ^ d)
+pub subsets-count : (d m : ℕ) → length (subsetsOf d m) ≡ 2 ^ ones (m % 2 ^ d)
 unfolding subsetsOf ones
 subsets-count zero m = rw (mod-one m)
 subsets-count (suc d) m = rw (mod-suc d m) (go (has d m) (subsets-count d m))
@@ -257,7 +261,7 @@ ascends = record { irrefl = descends .irrefl; trans = λ r s t h k. descends .tr
     turn (inr (inl e)) = inr (inl (sym e))
     turn (inr (inr h)) = inr (inr h)
 
-all-map : (P Q : ℕ → Type 0) (l : List ℕ) → ((t : ℕ) → P t → Q t) → All P l → All Q l
+pub all-map : (P Q : ℕ → Type 0) (l : List ℕ) → ((t : ℕ) → P t → Q t) → All P l → All Q l
 all-map P Q [] f a = tt
 all-map P Q (t ∷ l) f a = (f t (a .0), all-map P Q l f (a .1))
 
@@ -282,7 +286,7 @@ above : (t s : ℕ) (l : List ℕ) → s < t → After ascending s (map (bitOr t
 above t s [] h = tt
 above t s (u ∷ l) h = (lt→ltb s (bitOr t u) (omega (arith, or-add-and t u, and-le-r t u)), above t s l h)
 
-subsets-ascend : (d m : ℕ) → Sorted ascending (subsetsOf d m)
+pub subsets-ascend : (d m : ℕ) → Sorted ascending (subsetsOf d m)
 unfolding subsetsOf
 subsets-ascend zero m = (tt, tt)
 subsets-ascend (suc d) m =
@@ -306,4 +310,4 @@ clause-length p n hp hn e = ap length (clause-subsets p n hp hn)
     ∙ length-map (subsetsOf 32 p) (bitOr n) ∙ length-subsets p hp
   where
     apart : Apart n (subsetsOf 32 p)
-    apart = all-map (λ s. T (value s p)) (λ s. bitAnd n s ≡ 0) (subsetsOf 32 p) (λ s v. within-apart s p n (eqb→eq _ _ v) e) (subsets-uses 32 p p (within-value 32 p p (value-self p)))
+    apart = all-map (λ s. T (value s p)) (λ s. bitAnd n s ≡ 0) (subsetsOf 32 p) (λ s v. within-apart s p n (eqb→eq _ _ v) e) (subsets-within 32 p)

@@ -3,3 +3,5 @@ pub mod PolynomialLaws
 pub mod ClauseLaws
 pub mod OrderingLaws
 pub mod ToggleLaws
+pub mod Few
+pub mod FewLaws

@@ -77,7 +77,7 @@ pub times-uses : (m t : ℕ) (g : List ℕ) → T (value t m) → Uses m g → U
 times-uses m t [] h b = tt
 times-uses m t (u ∷ g) h b = (of-true (value-or t u m ∙ is-true (value t m && value u m) (both (value t m) (value u m) h (b .0))), times-uses m t g h (b .1))
 
-unions-uses : (m : ℕ) (f g : List ℕ) → Uses m f → Uses m g → Uses m (unions f g)
+pub unions-uses : (m : ℕ) (f g : List ℕ) → Uses m f → Uses m g → Uses m (unions f g)
 unfolding unions
 unions-uses m [] g a b = tt
 unions-uses m (t ∷ f) g a b = all-append (λ x. T (value x m)) (map (bitOr t) g) (unions f g) (times-uses m t g (a .0) b) (unions-uses m f g (a .1) b)

@@ -1,7 +1,10 @@
 -- `product_of` meets its contract: at most 64 terms with at most 64 make at most 4096 products.
+use mathlib.Core.Path.{sym, _∙_}
 use native.Mathlib.Omega.{arith}
 use lib.ListN.{length}
 use borrow.Author.Needs.{needs}
+use Rattle.run.specs.Boolean.{of-true}
+use Rattle.polynomial.specs.FewLaws.{suitable-few}
 use Rattle.polynomial.proofs.Keys.{most-products}
 use Rattle.polynomial.proofs.product_of.Statement.{statement}
 use Rattle.polynomial.proofs.product_of.Tie as tie
@@ -23,6 +26,17 @@ product-in-requires c κs = search needs
 returns : tie.Need-returns
 returns c = search needs
 
+suits-requires : tie.Need-suits-requires
+suits-requires c κs = search needs
+
+product-few-requires : tie.Need-product-few-requires
+product-few-requires c κs =
+    let s = c .before .before .before .before .before in
+    (s .pre .0, s .pre .1, suitable-few (s .args .f .now) (s .args .g .now) (of-true (sym (c .before .suits .ensures) ∙ c .if2 .taken)))
+
+returns-2 : tie.Need-returns-2
+returns-2 c = search needs
+
 slice-aggregate-product-in-3 : tie.Need-slice-aggregate-product-in-3
 slice-aggregate-product-in-3 c = search needs
 
@@ -32,8 +46,8 @@ slice-aggregate-product-in-4 c = search needs
 product-in-requires-2 : tie.Need-product-in-requires-2
 product-in-requires-2 c κs = search needs
 
-returns-2 : tie.Need-returns-2
-returns-2 c = search needs
+returns-3 : tie.Need-returns-3
+returns-3 c = search needs
 
 slice-aggregate-product-in-5 : tie.Need-slice-aggregate-product-in-5
 slice-aggregate-product-in-5 c = search needs
@@ -43,12 +57,12 @@ slice-aggregate-product-in-6 c = search needs
 
 product-in-requires-3 : tie.Need-product-in-requires-3
 product-in-requires-3 c κs =
-    let s = c .before .before .before .before .before .before in
+    let s = c .before .before .before .before .before .before .before .before in
     let most = most-products (length (s .args .f .now)) (length (s .args .g .now)) (s .pre .0) (s .pre .1) in
     (most, most)
 
-returns-3 : tie.Need-returns-3
-returns-3 c = search needs
+returns-4 : tie.Need-returns-4
+returns-4 c = search needs
 
 pub product-of-spec : {M : Type 1} → statement M
 product-of-spec =
@@ -59,11 +73,14 @@ product-of-spec =
     slice-aggregate-product-in-2
     product-in-requires
     returns
+    suits-requires
+    product-few-requires
+    returns-2
     slice-aggregate-product-in-3
     slice-aggregate-product-in-4
     product-in-requires-2
-    returns-2
+    returns-3
     slice-aggregate-product-in-5
     slice-aggregate-product-in-6
     product-in-requires-3
-    returns-3)
+    returns-4)

@@ -1,0 +1,202 @@
+// Products of polynomials that have few variables together: each subset of these variables has a place in a table,
+// and each product of two terms toggles its place.
+use crate::Outcome;
+use crate::Polynomial;
+use crate::clause::subsets;
+use crate::collect;
+use crate::ordered_keys;
+ghost use mathlib.Core.Path.{_≡_};
+ghost use mathlib.Core.List.{map};
+ghost use Prim.Native.Nat.{ℕ, _^_, _≤_, _<_};
+ghost use lib.Bits.{bitOr};
+ghost use lib.ListN.{length, getD, take, replicate};
+ghost use Rattle.term.specs.Term.{degreeOf};
+ghost use Rattle.run.specs.Run.{All, Sorted};
+ghost use Rattle.polynomial.specs.ClauseLaws.{ascending};
+ghost use Rattle.polynomial.specs.Few.{joined, variablesOf, digit, withDigits, indexOf, productIndices, toggled, chosen, mostVariables, suitable};
+ghost use Rattle.polynomial.specs.Polynomial.{normal, unions, productOf, outcomeOf, Uses};
+
+// The variables of a run of terms, joined to those of a mask.
+fn variables_with(mask: u32, terms: &[u32]) -> u32
+    ensures { λ r. ⌜ r ≡ joined mask (now (terms .entry)) ⌝ }
+{
+    let mut all = mask;
+    let mut i: usize = 0;
+    while i < terms.len() {
+        all = all | terms[i];
+        i += 1;
+    }
+    all
+}
+
+// The variables of two runs of terms.
+fn variables(f: &[u32], g: &[u32]) -> u32
+    ensures { λ r. ⌜ r ≡ variablesOf (now (f .entry)) (now (g .entry)) ⌝ }
+{
+    variables_with(variables_with(0, f), g)
+}
+
+// A place where a term has a variable, and 0 where it has not.
+fn digit_at(variable: u32, place: u32, term: u32) -> u32
+    requires { ⌜ variable < 32 ⌝ }
+    ensures { λ r. ⌜ r ≡ digit variable place term ⌝ }
+{
+    if (term >> variable) % 2 == 1 {
+        place
+    } else {
+        0
+    }
+}
+
+// Joins the digit of a variable to the index of each term of a run.
+fn add_digits(variable: u32, place: u32, terms: &[u32], out: &mut [u32])
+    requires { ⌜ (variable < 32) × (length (now terms) ≡ length (now out)) ⌝ }
+    ensures { λ _. ⌜ now (out .exit) ≡ withDigits variable place (now (terms .entry)) (now (out .entry)) ⌝ }
+{
+    let mut i: usize = 0;
+    while i < terms.len() {
+        out[i] = out[i] | digit_at(variable, place, terms[i]);
+        i += 1;
+    }
+}
+
+// Writes the index of each term of a run within a mask, into an area of zeros.
+fn indices(mask: u32, terms: &[u32], out: &mut [u32])
+    requires { ⌜ (degreeOf mask ≤ 12) × (now out ≡ replicate (length (now terms)) 0) ⌝ }
+    ensures { λ _. ⌜ now (out .exit) ≡ map (indexOf 32 mask) (now (terms .entry)) ⌝ }
+{
+    let mut place: u32 = 1;
+    let mut i: u32 = 0;
+    while i < 32 {
+        if (mask >> i) % 2 == 1 {
+            add_digits(i, place, terms, out);
+            place = place + place;
+        }
+        i += 1;
+    }
+}
+
+// Toggles the place of the union of an index with each index of a run.
+fn toggle_row(index: u32, row: &[u32], table: &mut [u8])
+    requires { ⌜ All (λ u. bitOr index u < length (now table)) (now row) ⌝ }
+    ensures { λ _. ⌜ now (table .exit) ≡ toggled (now (table .entry)) (map (bitOr index) (now (row .entry))) ⌝ }
+{
+    let mut i: usize = 0;
+    while i < row.len() {
+        let place = (index | row[i]) as usize;
+        table[place] = table[place] ^ 1;
+        i += 1;
+    }
+}
+
+// Toggles the place of the union of each index of f with each index of g.
+fn toggle(f: &[u32], g: &[u32], table: &mut [u8])
+    requires { ⌜ All (λ t. All (λ u. bitOr t u < length (now table)) (now g)) (now f) ⌝ }
+    ensures { λ _. ⌜ now (table .exit) ≡ toggled (now (table .entry)) (unions (now (f .entry)) (now (g .entry))) ⌝ }
+{
+    let mut i: usize = 0;
+    while i < f.len() {
+        toggle_row(f[i], g, table);
+        i += 1;
+    }
+}
+
+// Toggles the place of the product of each term of f with each term of g.
+fn toggle_products(mask: u32, f: &[u32], g: &[u32], table: &mut [u8])
+    requires { ⌜ (length (now f) ≤ 64) × (length (now g) ≤ 64) × (degreeOf mask ≤ 12) × (2 ^ degreeOf mask ≤ length (now table)) ⌝ }
+    ensures { λ _. ⌜ now (table .exit) ≡ toggled (now (table .entry)) (productIndices mask (now (f .entry)) (now (g .entry))) ⌝ }
+{
+    let m = f.len();
+    let n = g.len();
+    let mut left = [0u32; 64];
+    let mut right = [0u32; 64];
+    indices(mask, f, &mut left[..m]);
+    indices(mask, g, &mut right[..n]);
+    toggle(&left[..m], &right[..n], table);
+}
+
+// Brings the masks whose places in a table are 1 to the front, and answers how many they are.
+fn choose(masks: &mut [u32], table: &[u8]) -> usize
+    requires { ⌜ (length (now masks) ≤ length (now table)) × ((i : ℕ) → i < length (now table) → getD (now table) i 0 ≤ 1) ⌝ }
+    ensures size { λ r. ⌜ r ≤ length (now (masks .entry)) ⌝ }
+    ensures masks { λ r. ⌜ take r (now (masks .exit)) ≡ chosen (now (masks .entry)) (now (table .entry)) ⌝ }
+{
+    let mut count: usize = 0;
+    let mut i: usize = 0;
+    while i < masks.len() {
+        masks[count] = masks[i];
+        count += table[i] as usize;
+        i += 1;
+    }
+    count
+}
+
+// The exact result whose terms are those of an ascending run of masks.
+fn arranged(masks: &[u32]) -> Outcome
+    requires { ⌜ Sorted ascending (now masks) ⌝ }
+    ensures { λ r. ⌜ r ≡ outcomeOf (normal (now (masks .entry))) ⌝ }
+{
+    let count = masks.len();
+    if 64 < count {
+        return Outcome {
+            length: count,
+            polynomial: Polynomial::ZERO,
+        };
+    }
+    let mut keys = [0u64; 64];
+    let mut spare = [0u64; 64];
+    let n = ordered_keys(0, masks, &mut keys, &mut spare);
+    collect(&keys[..n])
+}
+
+// The product of two runs of terms within a mask, by a table of zeros with a place for each subset of the mask; the
+// other area is work space for the subsets.
+fn product_by(mask: u32, f: &[u32], g: &[u32], masks: &mut [u32], table: &mut [u8]) -> Outcome
+    requires { ⌜ (length (now f) ≤ 64) × (length (now g) ≤ 64) × (degreeOf mask ≤ 12) × Uses mask (now f) × Uses mask (now g)
+        × (2 ^ degreeOf mask ≤ length (now masks)) × (2 ^ degreeOf mask ≤ length (now table)) × (now table ≡ replicate (length (now table)) 0) ⌝ }
+    ensures { λ r. ⌜ r ≡ outcomeOf (productOf (now (f .entry)) (now (g .entry))) ⌝ }
+{
+    toggle_products(mask, f, g, table);
+    let places = subsets(mask, masks);
+    let count = choose(&mut masks[..places], table);
+    arranged(&masks[..count])
+}
+
+// How many variables there may be for so many pairs of terms, if a table is to pay.
+fn most_variables(pairs: usize) -> u32
+    ensures { λ r. ⌜ r ≡ mostVariables pairs ⌝ }
+{
+    if pairs <= 64 {
+        return 8;
+    }
+    if pairs <= 128 { 10 } else { 12 }
+}
+
+// Whether the product of two runs of terms is made by a table.
+pub fn suits(f: &[u32], g: &[u32]) -> bool
+    requires { ⌜ (length (now f) ≤ 64) × (length (now g) ≤ 64) ⌝ }
+    ensures { λ r. ⌜ r ≡ suitable (now (f .entry)) (now (g .entry)) ⌝ }
+{
+    let pairs = f.len() * g.len();
+    if pairs <= 16 {
+        return false;
+    }
+    term::degree(variables(f, g)) <= most_variables(pairs)
+}
+
+// The product of two runs of terms with at most 12 variables together. Few variables get small areas, since an area
+// is cleared each time.
+pub fn product_few(f: &[u32], g: &[u32]) -> Outcome
+    requires { ⌜ (length (now f) ≤ 64) × (length (now g) ≤ 64) × (degreeOf (variablesOf (now f) (now g)) ≤ 12) ⌝ }
+    ensures { λ r. ⌜ r ≡ outcomeOf (productOf (now (f .entry)) (now (g .entry))) ⌝ }
+{
+    let mask = variables(f, g);
+    if term::degree(mask) <= 8 {
+        let mut masks = [0u32; 256];
+        let mut table = [0u8; 256];
+        return product_by(mask, f, g, &mut masks, &mut table);
+    }
+    let mut masks = [0u32; 4096];
+    let mut table = [0u8; 4096];
+    product_by(mask, f, g, &mut masks, &mut table)
+}
