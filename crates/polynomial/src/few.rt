@@ -1,5 +1,5 @@
 // Products of polynomials that have few variables together: each subset of these variables has a place in a table,
-// and each product of two terms toggles its place.
+// and each product of two terms toggles its place. These functions are for this crate.
 use crate::Outcome;
 use crate::Polynomial;
 use crate::clause::subsets;
