@@ -16,7 +16,7 @@ use sound.WpLaws.{FmC, WpFn-mono}
 use contract.Lifetimes.{Lfts, Shares, Within, lftAt, toks}
 use contract.Running.{GhostRules, Running, givenOf, tables, tablesOf}
 use types.Kit.{Given, Item, ‵, raw, some, later, _⊛_, mean, ⋆, push, pop, ++⊢, ⊢++, Post, atRet, Goal, runs, lands, Seq, Sq, Step, step, _$_, _∵_, !, qed, by, move, drop, cut⊢, use0, use1, split, join, pick, await, done}
-use types.Run.{Opds}
+use types.Run.{Opds, Writes, stop, from, land}
 use denote.Exit.{yes, Exit, unchanged, Last, left}
 use denote.RattleType.{RattleType, Denots, Valss, mirs, flat, owns}
 use denote.Laws.{Is, Ises, Tells, Tellss, Spells, valss, Are, Typed, shows, Makes, Lawful, Lawfuls, all-typed}
@@ -41,7 +41,7 @@ use denote.Enum.Declared as ED
 use denote.Enum.Enum.{Plainss, Few}
 use denote.Enum.Laws as EL
 use Rattle.checker.proofs.Lending.{gives-up}
-use Rattle.checker.proofs.Locals.{Hold, bare, hold, holding, looked, copies, envOf, locals, FitsAfter, vars, lands-in, enters}
+use Rattle.checker.proofs.Locals.{Hold, bare, hold, holding, looked, copies, envOf, locals, FitsAfter, vars, fills-at, enters}
 
 -- ---- plain data: each denotation has one machine value, and to own it is to know that it has
 pub record Datum (R : RattleType) : Type 2 where
@@ -294,9 +294,48 @@ module _ {M : Type 1} {𝓤 : URA M} {H : Heap 𝓤} {A : Atoms 𝓤} {K : Type 
       (via 𝓤 (sep 𝓤 (emp 𝓤) P) (emp∗ 𝓤 P) (via 𝓤 (sep 𝓤 Q P) (monoL 𝓤 P req) (comm∗ 𝓤 Q P))))
 
 -- ---- a call: then its last values and the tokens are there one by one
-module _ {M : Type 1} {𝓤 : URA M} {H : Heap 𝓤} {A : Atoms 𝓤} {K : Type 0} {W : Given 𝓤 H A} {Γ : List (Item 𝓤)} {E : Env 𝓤 H} {hs : List Hold} where
-  pub calls-told : K → {C : Calls 𝓤 H} {Λ : Loops 𝓤 H} {q : Post 𝓤 H} {f : Name} {xs : List Operand} {d : ℕ} {rest : Body} → FmC 𝓤 H (W .laws) C
+module _ {M : Type 1} {𝓤 : URA M} {H : Heap 𝓤} {A : Atoms 𝓤} {K : Type 0} {W : Given 𝓤 H A} {Γ : List (Item 𝓤)} {E : Env 𝓤 H} where
+  -- its result is put into the entry j, which may be a part of the locals, and is k of the result then
+  pub calls-into : K → {C : Calls 𝓤 H} {Λ : Loops 𝓤 H} {q : Post 𝓤 H} {f : Name} {xs : List Operand} {d : ℕ} {rest : Body} → FmC 𝓤 H (W .laws) C
       → (U : Ended) (c : Clauses 𝓤 U) → Triple 𝓤 (C f) (contractOf 𝓤 H A U c) → (x : contractOf 𝓤 H A U c .Ghost)
+      → (D : Datum (typeAt (U .signature .result) (x .0 .0))) (j : Item 𝓤) (k : Val → Item 𝓤)
+      → Opds K W (raw (contractOf 𝓤 H A U c .pre x) ∷ j ∷ Γ) E xs (contractOf 𝓤 H A U c .args x)
+      → ((v : Val) (Δ : List (Item 𝓤)) → Typed (typeAt (U .signature .result) (x .0 .0) .mir) (v ∷ [])
+      → Writes K W (j ∷ Δ) (spotOf 𝓤 H E d .0) (spotOf 𝓤 H E d .1) zero v (k v ∷ Δ))
+      → ((r : Res (U .signature) (x .0 .0)) (ws : Lasts U (x .0 .0) (x .0 .3)) → Is (typeAt (U .signature .result) (x .0 .0)) r (D .val r ∷ [])
+      → Seq K W (raw (c (x .0 .0) (x .0 .3) .ensures (x .1) r (atExit U (x .0 .0) (x .0 .3) ws)) ∷ k (D .val r)
+      ∷ (listed 𝓤 H A (tokens (U .signature .lifetimes) (x .0 .0) (x .0 .1)) ++ listed 𝓤 H A (lefts (x .0 .0) (U .signature .params) (U .kept) (x .0 .3) ws))
+      ++ Γ) (runs C Λ E rest q))
+      → Seq K W (j ∷ raw (contractOf 𝓤 H A U c .pre x) ∷ Γ) (runs C Λ E (seq (call f xs (place d [])) rest) q)
+  calls-into t {C} {Λ} {q} {f} {xs} {d} {rest} fm U c known x D j k opds writes next =
+      let S : Signature = U .signature in
+      let R : RattleType = typeAt (S .result) (x .0 .0) in
+      let ts : List Fml = tokens (S .lifetimes) (x .0 .0) (x .0 .1) in
+      move t (1 ∷ 0 ∷ []) $
+      calls-at t fm (contractOf 𝓤 H A U c) known x opds (λ w.
+      use1 W (later (some (λ (r : Res S (x .0 .0)). (raw (alive 𝓤 H A S (x .0 .0) (x .0 .1)) ⊛ ‵ (R .own r (w ∷ [])))
+      ⊛ raw (ensured 𝓤 H A U c (x .0 .0) (x .0 .3) (x .1) r)))) (id⊢ 𝓤 _) $
+      await t tt $ pick t (λ r. split t $ split t $ move t (1 ∷ []) $ peeks t R (Is R) (shows 𝓤 H A R) r (w ∷ []) (λ told.
+      subst (λ (u : Val). Is R r (u ∷ []) → Seq K W (‵ (R .own r (w ∷ [])) ∷ raw (alive 𝓤 H A S (x .0 .0) (x .0 .1))
+      ∷ raw (ensured 𝓤 H A U c (x .0 .0) (x .0 .3) (x .1) r) ∷ j ∷ Γ) (lands C Λ E (place d []) u rest q))
+      (sym (ap only (D .tells r (w ∷ []) told))) (λ is-r.
+      drop t $ move t (2 ∷ []) $ land t (from t (stop t)) (writes (D .val r) _ (D .lawful 𝓤 H A W .typed r (D .val r ∷ []) is-r)) $ move t (2 ∷ []) $
+      use1 W (some (λ (ws : Lasts U (x .0 .0) (x .0 .3)). ‵ (lasts U (x .0 .0) (x .0 .3) ws)
+      ⊛ raw (c (x .0 .0) (x .0 .3) .ensures (x .1) r (atExit U (x .0 .0) (x .0 .3) ws)))) (id⊢ 𝓤 _) $
+      pick t (λ ws. split t $ move t (1 ∷ 2 ∷ 3 ∷ 0 ∷ []) $
+      let ls : List Fml = lefts (x .0 .0) (S .params) (U .kept) (x .0 .3) ws in
+      let Δ : List (Item 𝓤) = listed 𝓤 H A ts ++ listed 𝓤 H A ls in
+      let i : Item 𝓤 = raw (c (x .0 .0) (x .0 .3) .ensures (x .1) r (atExit U (x .0 .0) (x .0 .3) ws)) in
+      let before : List (Item 𝓤) = raw (alive 𝓤 H A S (x .0 .0) (x .0 .1)) ∷ ‵ (lasts U (x .0 .0) (x .0 .3) ws) ∷ [] in
+      by t (via 𝓤 (⋆ 𝓤 H A (i ∷ k (D .val r) ∷ Δ ++ Γ))
+      (under 𝓤 H A i (k (D .val r) ∷ before ++ Γ) (k (D .val r) ∷ Δ ++ Γ) (under 𝓤 H A (k (D .val r)) (before ++ Γ) (Δ ++ Γ)
+      (cut⊢ 𝓤 H A before Δ Γ (⋆ 𝓤 H A (Δ ++ Γ)) (out 𝓤 H A _ _ ts ls (tokens-is 𝓤 H A (S .lifetimes) (x .0 .0) (x .0 .1))
+      (ap (sem 𝓤 H A) (lasts-is (x .0 .0) (S .params) (U .kept) (x .0 .3) ws))) (id⊢ 𝓤 _))))
+      (next r ws is-r .prf)))) told)))
+
+  -- the arguments are in locals, and the result is put into one
+  pub calls-told : K → {hs : List Hold} {C : Calls 𝓤 H} {Λ : Loops 𝓤 H} {q : Post 𝓤 H} {f : Name} {xs : List Operand} {d : ℕ} {rest : Body}
+      → FmC 𝓤 H (W .laws) C → (U : Ended) (c : Clauses 𝓤 U) → Triple 𝓤 (C f) (contractOf 𝓤 H A U c) → (x : contractOf 𝓤 H A U c .Ghost)
       → (D : Datum (typeAt (U .signature .result) (x .0 .0))) (is : List ℕ) → xs ≡ copies is → looked hs is ≡ holding (contractOf 𝓤 H A U c .args x)
       → ((v : Val) → Typed (typeAt (U .signature .result) (x .0 .0) .mir) (v ∷ []) → T (hasTy (spotOf 𝓤 H E d .0) v) × WT v)
       → ((r : Res (U .signature) (x .0 .0)) (ws : Lasts U (x .0 .0) (x .0 .3)) → Is (typeAt (U .signature .result) (x .0 .0)) r (D .val r ∷ [])
@@ -304,34 +343,11 @@ module _ {M : Type 1} {𝓤 : URA M} {H : Heap 𝓤} {A : Atoms 𝓤} {K : Type 
       ∷ (listed 𝓤 H A (tokens (U .signature .lifetimes) (x .0 .0) (x .0 .1)) ++ listed 𝓤 H A (lefts (x .0 .0) (U .signature .params) (U .kept) (x .0 .3) ws))
       ++ Γ) (runs C Λ E rest q))
       → Seq K W (locals 𝓤 H E hs ∷ raw (contractOf 𝓤 H A U c .pre x) ∷ Γ) (runs C Λ E (seq (call f xs (place d [])) rest) q)
-  calls-told t {C} {Λ} {q} {f} {xs} {d} {rest} fm U c known x D is ex es typed k =
-      let S : Signature = U .signature in
-      let R : RattleType = typeAt (S .result) (x .0 .0) in
+  calls-told t {hs = hs} {d = d} fm U c known x D is ex es typed next =
       let P : SProp 𝓤 = contractOf 𝓤 H A U c .pre x in
-      let ts : List Fml = tokens (S .lifetimes) (x .0 .0) (x .0 .1) in
-      move t (1 ∷ 0 ∷ []) $
-      calls-at t fm (contractOf 𝓤 H A U c) known x (subst (λ (ys : List Operand). Opds K W (raw P ∷ locals 𝓤 H E hs ∷ Γ) E ys (contractOf 𝓤 H A U c .args x))
-      (sym ex) (vars t (raw P) is es)) (λ w.
-      use1 W (later (some (λ (r : Res S (x .0 .0)). (raw (alive 𝓤 H A S (x .0 .0) (x .0 .1)) ⊛ ‵ (R .own r (w ∷ [])))
-      ⊛ raw (ensured 𝓤 H A U c (x .0 .0) (x .0 .3) (x .1) r)))) (id⊢ 𝓤 _) $
-      await t tt $ pick t (λ r. split t $ split t $ move t (1 ∷ []) $ peeks t R (Is R) (shows 𝓤 H A R) r (w ∷ []) (λ told.
-      subst (λ (u : Val). Is R r (u ∷ []) → Seq K W (‵ (R .own r (w ∷ [])) ∷ raw (alive 𝓤 H A S (x .0 .0) (x .0 .1))
-      ∷ raw (ensured 𝓤 H A U c (x .0 .0) (x .0 .3) (x .1) r) ∷ locals 𝓤 H E hs ∷ Γ) (lands C Λ E (place d []) u rest q))
-      (sym (ap only (D .tells r (w ∷ []) told))) (λ is-r.
-      drop t $ move t (2 ∷ []) $ lands-in t (typed (D .val r) (D .lawful 𝓤 H A W .typed r (D .val r ∷ []) is-r)) $ move t (2 ∷ []) $
-      use1 W (some (λ (ws : Lasts U (x .0 .0) (x .0 .3)). ‵ (lasts U (x .0 .0) (x .0 .3) ws)
-      ⊛ raw (c (x .0 .0) (x .0 .3) .ensures (x .1) r (atExit U (x .0 .0) (x .0 .3) ws)))) (id⊢ 𝓤 _) $
-      pick t (λ ws. split t $ move t (1 ∷ 2 ∷ 3 ∷ 0 ∷ []) $
-      let ls : List Fml = lefts (x .0 .0) (S .params) (U .kept) (x .0 .3) ws in
-      let Δ : List (Item 𝓤) = listed 𝓤 H A ts ++ listed 𝓤 H A ls in
-      let i : Item 𝓤 = raw (c (x .0 .0) (x .0 .3) .ensures (x .1) r (atExit U (x .0 .0) (x .0 .3) ws)) in
-      let j : Item 𝓤 = locals 𝓤 H E (hold hs d (D .val r)) in
-      let before : List (Item 𝓤) = raw (alive 𝓤 H A S (x .0 .0) (x .0 .1)) ∷ ‵ (lasts U (x .0 .0) (x .0 .3) ws) ∷ [] in
-      by t (via 𝓤 (⋆ 𝓤 H A (i ∷ j ∷ Δ ++ Γ))
-      (under 𝓤 H A i (j ∷ before ++ Γ) (j ∷ Δ ++ Γ) (under 𝓤 H A j (before ++ Γ) (Δ ++ Γ)
-      (cut⊢ 𝓤 H A before Δ Γ (⋆ 𝓤 H A (Δ ++ Γ)) (out 𝓤 H A _ _ ts ls (tokens-is 𝓤 H A (S .lifetimes) (x .0 .0) (x .0 .1))
-      (ap (sem 𝓤 H A) (lasts-is (x .0 .0) (S .params) (U .kept) (x .0 .3) ws))) (id⊢ 𝓤 _))))
-      (k r ws is-r .prf)))) told)))
+      calls-into t fm U c known x D (locals 𝓤 H E hs) (λ v. locals 𝓤 H E (hold hs d v))
+      (subst (λ (ys : List Operand). Opds K W (raw P ∷ locals 𝓤 H E hs ∷ Γ) E ys (contractOf 𝓤 H A U c .args x)) (sym ex) (vars t (raw P) is es))
+      (λ v Δ z. fills-at t 0 d refl (typed v z)) next
 
 -- ---- a function of some parameters, from its entry to its end
 abbrev pub endedOf : (n : ℕ) → List (Param n) → Slot n → Ended

@@ -1,4 +1,5 @@
 pub mod Calling
+pub mod Elements
 pub mod Filling
 pub mod Holding
 pub mod Lending

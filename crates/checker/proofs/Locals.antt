@@ -1,12 +1,12 @@
 -- The locals of a function as one thing: at entry there is room for each and the parameters hold what is passed, code reads and writes them,
--- and at a return they are freed, whatever each holds.
+-- one may be taken out and put back, and at a return they are freed, whatever each holds.
 use mathlib.Core.Path.{_≡_, refl, sym, _∙_, ap, subst}
 use mathlib.Core.Bool.{Bool, true, false, _&&_}
 use mathlib.Core.Option.{some}
-use mathlib.Core.List.{List, [], _∷_}
+use mathlib.Core.List.{List, [], _∷_, _++_}
 use Prim.Native.Nat.{ℕ, zero, suc, _+_}
 use lib.Dec.{T}
-use lib.ListN.{getD, take}
+use lib.ListN.{getD, take, drop}
 use mir.Syntax.{Sym, Ty, Tys, tyStruct, tyEnum, ttnil, field, deref, place, Opd as Operand, copy, Rv as RValue, addrOf, Body, seq, assign, return, Local, local, Fn}
 use mir.Fields.{getV}
 use mir.Val.{Val, vunit, vbool, vint, vfloat, vptr, vstruct, Vals, tagged, WT, hasTy}
@@ -17,9 +17,9 @@ use base.Fml.{Fml, fat, froom, fdies}
 use prog.Memory.{fieldAt, fieldOf}
 use prog.Wp.{Heap, next, Env, Calls, Loops, WpFn, spotOf, pass, release, atReturn, returns as returnsᴼ}
 use ghost.Atoms.{Atoms, sem}
-use types.Kit.{Given, Item, ‵, raw, _⊛_, given, mean, ⋆, nth, del, put, pull, push, pop, fill, Post, atRet, post, Goal, prop, runs, lands, allocs, params′, aim, Seq, Step, step, _$_, _∵_, !, qed, by, move, use0, use1, use2, split, join, assume, frame, each, check, done}
+use types.Kit.{Given, Item, ‵, raw, _⊛_, given, mean, ⋆, nth, del, put, pull, push, pop, fill, Post, atRet, post, Goal, prop, runs, allocs, params′, aim, Seq, Step, step, _$_, _∵_, !, qed, by, move, keep, use0, use1, use2, split, join, assume, frame, each, check, done}
 use types.Part.{Part, sub, look-in}
-use types.Run.{Reads, Writes, Opd, Opds, Rv, stop, hop, fld, from, load, addr, and-then, no-more, assigns, assigns-last, land, returns-within, enter, alloc1, alloc0}
+use types.Run.{Reads, Writes, Opd, Opds, Rv, stop, hop, fld, from, load, addr, and-then, no-more, assigns, assigns-last, returns-within, enter, alloc1, alloc0}
 
 -- ---- what a local holds: nothing that is known, or a value. The locals past the end of a list are bare
 pub data Hold : Type 0 where
@@ -145,6 +145,14 @@ module _ {M : Type 1} (𝓤 : URA M) (H : Heap 𝓤) where
   FitsAfter [] vs = ⊥
   FitsAfter (e ∷ E) vs = Fits E vs
 
+  -- these are held of the locals before local i
+  abbrev pub Before : Env 𝓤 H → List Hold → ℕ → Type 0
+  Before [] hs i = ⊥
+  Before (e ∷ E) [] zero = Unit {0}
+  Before (e ∷ E) [] (suc i) = ⊥
+  Before (e ∷ E) (h ∷ hs) zero = ⊥
+  Before (e ∷ E) (h ∷ hs) (suc i) = Before E hs i
+
 module _ {M : Type 1} (𝓤 : URA M) (H : Heap 𝓤) (A : Atoms 𝓤) (W : Given 𝓤 H A) where
   abbrev Cell : Env 𝓤 H → ℕ → Val → Fml
   Cell E i v = fat fullShare (spotOf 𝓤 H E i .0) (spotOf 𝓤 H E i .1) zero v
@@ -237,6 +245,39 @@ module _ {M : Type 1} (𝓤 : URA M) (H : Heap 𝓤) (A : Atoms 𝓤) (W : Given
   forgotten (e ∷ E) zero (h ∷ hs) = mono∗ 𝓤 (monoL 𝓤 (H .dies (e .0) (e .1)) (roomy e h)) (forgotten E zero hs)
   forgotten (e ∷ E) (suc n) (h ∷ hs) = monoR 𝓤 (sep 𝓤 (lies 𝓤 H e h) (H .dies (e .0) (e .1))) (forgotten E n hs)
 
+  -- local i, with what frees it, apart from the locals after it and those before it; and the same back
+  abbrev Own : Env 𝓤 H → ℕ → Val → SProp 𝓤
+  Own E i v = sep 𝓤 (sem 𝓤 H A (Cell E i v)) (H .dies (spotOf 𝓤 H E i .0) (spotOf 𝓤 H E i .1))
+
+  apart : (E : Env 𝓤 H) (hs : List Hold) (i : ℕ) (v : Val) → There hs i v
+      → ent 𝓤 (held 𝓤 H E hs) (sep 𝓤 (Own E i v) (sep 𝓤 (held 𝓤 H (drop (suc i) E) (drop (suc i) hs)) (held 𝓤 H (take i E) (take i hs))))
+  unfolding held
+  apart E [] i v p = absurd p
+  apart [] (h ∷ hs) i v p = neverE 𝓤 _
+  apart (e ∷ E) (bare ∷ hs) zero v p = absurd p
+  apart (e ∷ E) (holds u ∷ hs) zero v p =
+      subst (λ (x : Val). ent 𝓤 (held 𝓤 H (e ∷ E) (holds u ∷ hs)) (sep 𝓤 (Own (e ∷ E) zero x) (sep 𝓤 (held 𝓤 H E hs) (emp 𝓤)))) p
+      (qed W ((‵ (fat fullShare (e .0) (e .1) zero u) ⊛ ‵ (fdies (e .0) (e .1))) ∷ raw (held 𝓤 H E hs) ∷ []) ∵ frame ! $ use0 W (raw (emp 𝓤)) (id⊢ 𝓤 (emp 𝓤)) $
+      move ! (1 ∷ 0 ∷ []) $ done !)
+  apart (e ∷ E) (h ∷ hs) (suc i) v p =
+      qed W ((raw (lies 𝓤 H e h) ⊛ ‵ (fdies (e .0) (e .1))) ∷ raw (held 𝓤 H E hs) ∷ []) ∵ move ! (1 ∷ []) $
+      use1 W (raw (Own E i v) ⊛ (raw (held 𝓤 H (drop (suc i) E) (drop (suc i) hs)) ⊛ raw (held 𝓤 H (take i E) (take i hs)))) (apart E hs i v p) $
+      split ! $ frame ! $ split ! $ frame ! $ move ! (1 ∷ 0 ∷ []) $ done !
+
+  whole : (E : Env 𝓤 H) (before after : List Hold) (i : ℕ) (v : Val) → Before 𝓤 H E before i
+      → ent 𝓤 (sep 𝓤 (Own E i v) (sep 𝓤 (held 𝓤 H (drop (suc i) E) after) (held 𝓤 H (take i E) before))) (held 𝓤 H E (before ++ holds v ∷ after))
+  unfolding held
+  whole [] before after i v p = absurd p
+  whole (e ∷ E) [] after zero v p =
+      qed W ((‵ (fat fullShare (e .0) (e .1) zero v) ⊛ ‵ (fdies (e .0) (e .1))) ∷ (raw (held 𝓤 H E after) ⊛ raw (emp 𝓤)) ∷ []) ∵
+      frame ! $ split ! $ keep ! (0 ∷ []) $ done !
+  whole (e ∷ E) [] after (suc i) v p = absurd p
+  whole (e ∷ E) (h ∷ before) after zero v p = absurd p
+  whole (e ∷ E) (h ∷ before) after (suc i) v p =
+      let L : SProp 𝓤 = sep 𝓤 (lies 𝓤 H e h) (H .dies (e .0) (e .1)) in
+      qed W (raw (Own E i v) ∷ (raw (held 𝓤 H (drop (suc i) E) after) ⊛ (raw L ⊛ raw (held 𝓤 H (take i E) before))) ∷ []) ∵
+      move ! (1 ∷ []) $ split ! $ move ! (1 ∷ []) $ split ! $ frame ! $ move ! (2 ∷ 1 ∷ 0 ∷ []) $ by ! (whole E before after i v p)
+
   -- the mark is taken off
   opened : (E : Env 𝓤 H) (hs : List Hold) → ent 𝓤 (mean 𝓤 H A (locals 𝓤 H E hs)) (held 𝓤 H E hs)
   opened E hs = guardE 𝓤 (At E hs) (held 𝓤 H E hs) (λ _. id⊢ 𝓤 (held 𝓤 H E hs))
@@ -318,6 +359,22 @@ module _ {M : Type 1} {𝓤 : URA M} {H : Heap 𝓤} {A : Atoms 𝓤} {K : Type 
     forgets t n = use1 W (locals 𝓤 H E (take n hs)) (via 𝓤 (held 𝓤 H E hs) (opened 𝓤 H A W E hs)
         (via 𝓤 (held 𝓤 H E (take n hs)) (forgotten 𝓤 H A W E n hs) (guardI 𝓤 (At E (take n hs)) (held 𝓤 H E (take n hs)) at)))
 
+    -- local i is taken out
+    pub takes-out : K → (i : ℕ) (τ : Ty) {v : Val} {G : Goal 𝓤 H} → spotOf 𝓤 H E i .0 ≡ τ → Holds hs i v
+        → Step K W (‵ (fat fullShare τ (spotOf 𝓤 H E i .1) zero v) ∷ ‵ (fdies τ (spotOf 𝓤 H E i .1)) ∷ locals 𝓤 H (drop (suc i) E) (drop (suc i) hs)
+        ∷ locals 𝓤 H (take i E) (take i hs) ∷ Γ) G (locals 𝓤 H E hs ∷ Γ) G
+    takes-out t i τ {v} {G} e p =
+        let B : SProp 𝓤 = held 𝓤 H (drop (suc i) E) (drop (suc i) hs) in
+        let D : SProp 𝓤 = held 𝓤 H (take i E) (take i hs) in
+        subst (λ (σ : Ty). Step K W (‵ (fat fullShare σ (spotOf 𝓤 H E i .1) zero v) ∷ ‵ (fdies σ (spotOf 𝓤 H E i .1))
+        ∷ locals 𝓤 H (drop (suc i) E) (drop (suc i) hs) ∷ locals 𝓤 H (take i E) (take i hs) ∷ Γ) G (locals 𝓤 H E hs ∷ Γ) G) e
+        (step (λ s. use1 W (raw (held 𝓤 H E hs)) (opened 𝓤 H A W E hs) $
+        use1 W ((‵ (Cell 𝓤 H A W E i v) ⊛ ‵ (fdies (spotOf 𝓤 H E i .0) (spotOf 𝓤 H E i .1))) ⊛ (raw B ⊛ raw D)) (apart 𝓤 H A W E hs i v (there hs i v p)) $
+        split t $ move t (1 ∷ []) $ split t $ move t (1 ∷ []) $
+        use1 W (locals 𝓤 H (take i E) (take i hs)) (guardI 𝓤 (At (take i E) (take i hs)) D at) $ move t (1 ∷ []) $
+        use1 W (locals 𝓤 H (drop (suc i) E) (drop (suc i) hs)) (guardI 𝓤 (At (drop (suc i) E) (drop (suc i) hs)) B at) $
+        move t (2 ∷ []) $ split t $ s))
+
     module _ {C : Calls 𝓤 H} {Λ : Loops 𝓤 H} {q : Post 𝓤 H} where
       -- a local is assigned, and so it is at the end of a turn
       pub sets : K → {i : ℕ} {rv : RValue} {rest : Body} {v : Val} → Rv K W (locals 𝓤 H E hs ∷ Γ) E rv v → T (hasTy (spotOf 𝓤 H E i .0) v) × WT v
@@ -328,11 +385,6 @@ module _ {M : Type 1} {𝓤 : URA M} {H : Heap 𝓤} {A : Atoms 𝓤} {K : Type 
           → Step K W (locals 𝓤 H E (hold hs i v) ∷ Γ) (prop (post 𝓤 H q next)) (locals 𝓤 H E hs ∷ Γ) (runs C Λ E (assign (place i []) rv) q)
       sets-last t {i} {v = v} r wt = assigns-last t r (from t (stop t)) (fills 𝓤 H A W K (locals 𝓤 H E hs ∷ Γ) E hs 0 i v refl wt)
 
-      -- what a call has returned is put into a local
-      pub lands-in : K → {i : ℕ} {rest : Body} {v : Val} → T (hasTy (spotOf 𝓤 H E i .0) v) × WT v
-          → Step K W (locals 𝓤 H E (hold hs i v) ∷ Γ) (runs C Λ E rest q) (locals 𝓤 H E hs ∷ Γ) (lands C Λ E (place i []) v rest q)
-      lands-in t {i} {v = v} wt = land t (from t (stop t)) (fills 𝓤 H A W K (locals 𝓤 H E hs ∷ Γ) E hs 0 i v refl wt)
-
       -- the function returns what local 0 holds, and the locals are freed
       pub leaves : K → (Kf : Val → SProp 𝓤) {v : Val} → post 𝓤 H q returnsᴼ ≡ atReturn 𝓤 H E Kf returnsᴼ → Holds hs 0 v
           → Step K W Γ (prop (Kf v)) (locals 𝓤 H E hs ∷ Γ) (runs C Λ E return q)
@@ -340,6 +392,28 @@ module _ {M : Type 1} {𝓤 : URA M} {H : Heap 𝓤} {A : Atoms 𝓤} {K : Type 
         prf = via 𝓤 (sep 𝓤 (mean 𝓤 H A (locals 𝓤 H E hs)) (⋆ 𝓤 H A Γ)) (pop 𝓤 H A (locals 𝓤 H E hs) Γ)
             (via 𝓤 (sep 𝓤 (held 𝓤 H E hs) (⋆ 𝓤 H A Γ)) (monoL 𝓤 (⋆ 𝓤 H A Γ) (opened 𝓤 H A W E hs)) (freed 𝓤 H A W E hs (⋆ 𝓤 H A Γ) (Kf v) (s .prf)));
       })
+
+-- local i is put back, between those before it and those after it
+pub puts-back : {M : Type 1} {𝓤 : URA M} {H : Heap 𝓤} {A : Atoms 𝓤} {K : Type 0} {W : Given 𝓤 H A} {Γ : List (Item 𝓤)} {G : Goal 𝓤 H} → K
+    → (E : Env 𝓤 H) (i : ℕ) (τ : Ty) {before after : List Hold} {v : Val} → spotOf 𝓤 H E i .0 ≡ τ → Before 𝓤 H E before i
+    → Step K W (locals 𝓤 H E (before ++ holds v ∷ after) ∷ Γ) G
+    (‵ (fat fullShare τ (spotOf 𝓤 H E i .1) zero v) ∷ ‵ (fdies τ (spotOf 𝓤 H E i .1)) ∷ locals 𝓤 H (drop (suc i) E) after ∷ locals 𝓤 H (take i E) before ∷ Γ) G
+puts-back {𝓤 = 𝓤} {H = H} {A = A} {K = K} {W = W} {Γ = Γ} {G = G} t E i τ {before} {after} {v} e p =
+    let B : SProp 𝓤 = held 𝓤 H (drop (suc i) E) after in
+    let D : SProp 𝓤 = held 𝓤 H (take i E) before in
+    let F : SProp 𝓤 = held 𝓤 H E (before ++ holds v ∷ after) in
+    subst (λ (σ : Ty). Step K W (locals 𝓤 H E (before ++ holds v ∷ after) ∷ Γ) G (‵ (fat fullShare σ (spotOf 𝓤 H E i .1) zero v)
+    ∷ ‵ (fdies σ (spotOf 𝓤 H E i .1)) ∷ locals 𝓤 H (drop (suc i) E) after ∷ locals 𝓤 H (take i E) before ∷ Γ) G) e
+    (step (λ s. join t $ move t (2 ∷ []) $ use1 W (raw D) (opened 𝓤 H A W (take i E) before) $ move t (2 ∷ []) $
+    use1 W (raw B) (opened 𝓤 H A W (drop (suc i) E) after) $ move t (0 ∷ 1 ∷ []) $ join t $ move t (1 ∷ 0 ∷ []) $
+    use2 W (raw F) (whole 𝓤 H A W E before after i v p) $
+    use1 W (locals 𝓤 H E (before ++ holds v ∷ after)) (guardI 𝓤 (At E (before ++ holds v ∷ after)) F at) $ s))
+
+-- a local as an operand, wherever the locals stand
+pub var-in : {M : Type 1} {𝓤 : URA M} {H : Heap 𝓤} {A : Atoms 𝓤} {K : Type 0} {W : Given 𝓤 H A} {Γ : List (Item 𝓤)} {E : Env 𝓤 H} {i : ℕ} {v : Val}
+    {back : Val → Item 𝓤} → K → (n : ℕ) → Part K W (nth 𝓤 H A n Γ) fullShare (spotOf 𝓤 H E i .0) (spotOf 𝓤 H E i .1) zero v back
+    → Opd K W Γ E (copy (place i [])) v
+var-in t n p = load t (from t (stop t)) (look-in t n p)
 
 -- a value is stored in local i, wherever the locals stand
 pub fills-at : {M : Type 1} {𝓤 : URA M} {H : Heap 𝓤} {A : Atoms 𝓤} {K : Type 0} {W : Given 𝓤 H A} {Γ : List (Item 𝓤)} {E : Env 𝓤 H} {hs : List Hold} → K
