@@ -440,7 +440,8 @@ fn near_clause(set: u32, points: &[u32]) -> Poly {
     poly
 }
 
-/// (c) Clauses of six plain literals, sums of clauses of 64 and 32 terms, and products of some 60 by 60 terms.
+/// (c) Clauses of six plain literals, sums of clauses of 64 and 32 terms, and products of some 60 by 60 terms. Both operands of each
+/// product lie in the same six variables, which is the best case of a product by a table; no workload times long products over many.
 pub fn long_lines(seed: u64) -> Input {
     let r = &mut Random(seed);
     let mut problem = vec![v(32), c(0, 0, 5)];
