@@ -6,7 +6,7 @@ use Prim.Native.Nat.{ℕ, zero, suc, _+_, _/_, _%_, _^_, _≤_, _<_}
 use native.Mathlib.Nat.{add-zero, le-of-suc-le-suc, not-suc-le-zero}
 use native.Mathlib.Numerals.{add-one}
 use native.Mathlib.Omega.{arith}
-use lib.Bits.{bitOr, bitXor, or-lt}
+use lib.Bits.{bitAnd, bitOr, bitXor, or-lt}
 use lib.Dec.{eqb}
 use lib.ListN.{length, getD, take, drop, set, replicate, drop-of-length-le, length-append, length-map, length-replicate}
 use lib.Seq.{drop-cons, drop-set-lt, take-suc-set, take-set-le, take-all, take-at, take-append-le}
@@ -14,7 +14,7 @@ use borrow.Author.Tests.{ne-eqb}
 use Rattle.term.specs.Term.{degreeOf}
 use Rattle.run.specs.Run.{All, odd}
 use Rattle.polynomial.specs.ClauseLaws.{length-subsets}
-use Rattle.polynomial.specs.Few.{joined, digit, withDigits, indexOf, toggled, chosen}
+use Rattle.polynomial.specs.Few.{joined, shared, digit, withDigits, indexOf, toggled, chosen}
 use Rattle.polynomial.specs.FewLaws.{index-lt, length-toggled, one, toggled-zeros}
 use Rattle.polynomial.specs.Polynomial.{unions, subsetsOf}
 
@@ -29,6 +29,14 @@ joined-more v f i h = ap (joined v) (sym (next f i h))
 pub joined-all : (v : ℕ) (f : List ℕ) (i : ℕ) → length f ≤ i → joined v (drop i f) ≡ v
 unfolding joined
 joined-all v f i h = ap (joined v) (drop-of-length-le f h)
+
+pub shared-more : (v : ℕ) (f : List ℕ) (i : ℕ) → i < length f → shared (bitAnd v (getD f i 0)) (drop (i + 1) f) ≡ shared v (drop i f)
+unfolding shared
+shared-more v f i h = ap (shared v) (sym (next f i h))
+
+pub shared-all : (v : ℕ) (f : List ℕ) (i : ℕ) → length f ≤ i → shared v (drop i f) ≡ v
+unfolding shared
+shared-all v f i h = ap (shared v) (drop-of-length-le f h)
 
 -- ---- one place written: what stands before it and behind it is as it was
 written : (out : List ℕ) (k v : ℕ) → k < length out → take (k + 1) (set out k v) ≡ take k out ++ (v ∷ [])

@@ -14,8 +14,8 @@ use lib.Arith.{bin-ind}
 use lib.ListN.{length, length-append, length-map}
 use lib.Pow.{pow-pos, pow-lt, pow-mono, split, mod-pow-add, pow-add}
 use Rattle.term.specs.Term.{value, before}
-use Rattle.run.specs.Boolean.{bool-ext, is-true, is-false, of-true, left, right, eq→eqb, cond-ind}
-use Rattle.term.specs.TermLaws.{sub-high, sub-low, value-bits, value-or, value-one, value-self, below-value}
+use Rattle.run.specs.Boolean.{bool-ext, is-true, is-false, of-true, both, left, right, eq→eqb, cond-ind}
+use Rattle.term.specs.TermLaws.{bit, sub-high, sub-low, value-bits, value-or, value-one, value-self, below-value}
 use Rattle.run.specs.F2.{_⊕_, ⊕-false, ⊕-self}
 use Rattle.run.specs.Run.{StrictOrder, After, Sorted, All}
 use Rattle.run.specs.RunLaws.{all-append, after-append, normal-all, normal-sorted, length-normal, descends}
@@ -33,6 +33,15 @@ pub has-none : (i m : ℕ) → T (not (has i m)) → m / 2 ^ i % 2 ≡ 0
 has-none i m h =
     let other : m / 2 ^ i % 2 ≡ 1 → ⊥ = λ e. T-not (has i m) h (one-has i m e) in
     omega arith
+
+-- a mask's bits where two masks meet, and whether both have a variable
+pub and-bit : (i s t : ℕ) → bit i (bitAnd s t) ≡ min (bit i s) (bit i t)
+and-bit i s t = omega (arith, and-shr s t i, and-step (s / 2 ^ i) (t / 2 ^ i))
+
+pub has-and : (i s t : ℕ) → has i (bitAnd s t) ≡ (has i s && has i t)
+has-and i s t = bool-ext (has i (bitAnd s t)) (has i s && has i t)
+    (λ h. both (has i s) (has i t) (one-has i s (omega (arith, has-one i (bitAnd s t) h, and-bit i s t))) (one-has i t (omega (arith, has-one i (bitAnd s t) h, and-bit i s t))))
+    (λ h. one-has i (bitAnd s t) (omega (arith, and-bit i s t, has-one i s (left (has i s) (has i t) h), has-one i t (right (has i s) (has i t) h))))
 
 and-variable : (i α : ℕ) → bitAnd (2 ^ i) α ≡ α / 2 ^ i % 2 * 2 ^ i
 and-variable i α = and-comm (2 ^ i) α ∙ ap (bitAnd α) top ∙ and-high α 1 i
@@ -151,22 +160,17 @@ clause-below k p n hp hn = uses-below k (clauseOf p n)
     (factors-uses 32 p n (2 ^ k - 1) (within-value 32 p (2 ^ k - 1) (below-value k p hp)) (within-value 32 n (2 ^ k - 1) (below-value k n hn)))
 
 -- ---- a variable both ways
-shared : (i p n : ℕ) → T (has i (bitAnd p n)) → T (has i p) × T (has i n)
-shared i p n h =
-    let e : min (p / 2 ^ i % 2) (n / 2 ^ i % 2) ≡ 1 = omega (arith, has-one i (bitAnd p n) h, and-shr p n i, and-step (p / 2 ^ i) (n / 2 ^ i)) in
-    (one-has i p (omega arith), one-has i n (omega arith))
-
-unmet-both : (a b x c : Bool) → T (not (a && x) && (not (b && not x) && c)) → (T a × T b → ⊥) × T c
+unmet-both : (a b x c : Bool) → T (not (a && x) && (not (b && not x) && c)) → (T (a && b) → ⊥) × T c
 unmet-both true b true c h = absurd h
 unmet-both true true false c h = absurd h
-unmet-both true false false c h = (λ s. s .1, h)
-unmet-both false b x c h = (λ s. s .0, right (not (b && not x)) c h)
+unmet-both true false false c h = (λ s. s, h)
+unmet-both false b x c h = (λ s. s, right (not (b && not x)) c h)
 
 factors-apart : (d p n α : ℕ) → T (eval (factors d p n) α) → bitAnd p n % 2 ^ d ≡ 0
 factors-apart zero p n α h = mod-one (bitAnd p n)
 factors-apart (suc d) p n α h =
     let u = unmet-both (has d p) (has d n) (has d α) (eval (factors d p n) α) (rw (eval-factors d p n α) at h) in
-    mod-suc d (bitAnd p n) ∙ cond-ind (has d (bitAnd p n)) (λ (z : ℕ). z ≡ 0) (λ s. absurd (u .0 (shared d p n s))) (λ s. factors-apart d p n α (u .1))
+    mod-suc d (bitAnd p n) ∙ cond-ind (has d (bitAnd p n)) (λ (z : ℕ). z ≡ 0) (λ s. absurd (u .0 (rw (has-and d p n) at s))) (λ s. factors-apart d p n α (u .1))
 
 -- a clause with a variable both ways is met everywhere: it is 0
 pub clause-both-ways : (p n : ℕ) → p < 2 ^ 32 → n < 2 ^ 32 → (bitAnd p n ≡ 0 → ⊥) → clauseOf p n ≡ []
@@ -270,7 +274,7 @@ sorted-append first [] m s r a = r
 sorted-append first (t ∷ l) m s r a = (after-append first t l m (s .0) (a .0), sorted-append first l m (s .1) r (a .1))
 
 -- what stands apart from t keeps its order beside t, above every number below t
-abbrev Apart : ℕ → List ℕ → Type 0
+abbrev pub Apart : ℕ → List ℕ → Type 0
 Apart t l = All (λ s. bitAnd t s ≡ 0) l
 
 times-after : (t s : ℕ) (l : List ℕ) → bitAnd t s ≡ 0 → Apart t l → After ascending s l → After ascending (bitOr t s) (map (bitOr t) l)
@@ -297,17 +301,21 @@ subsets-ascend (suc d) m =
     (all-map (λ t. t < 2 ^ d) (λ t. After ascending t (map (bitOr (2 ^ d)) (subsetsOf d m))) (subsetsOf d m) (λ t l. above (2 ^ d) t (subsetsOf d m) l) low))
     (λ h. subsets-ascend d m)
 
--- ---- the length of a clause with no variable both ways
+-- ---- masks apart from a mask, joined to it: as many are left as there are
+pub length-joined : (t : ℕ) (l : List ℕ) → Apart t l → Sorted ascending l → length (normal (map (bitOr t) l)) ≡ length l
+length-joined t l a s = length-normal before ascending written ascends (map (bitOr t) l) (times-ascend t l a s) ∙ length-map l (bitOr t)
+
 within-apart : (s p n : ℕ) → bitAnd s p ≡ s → bitAnd p n ≡ 0 → bitAnd n s ≡ 0
 within-apart = bin-ind (λ (s : ℕ). (p n : ℕ) → bitAnd s p ≡ s → bitAnd p n ≡ 0 → bitAnd n s ≡ 0)
     (λ p n e h. and-zero-r n)
     (λ s ih p n e h. omega (arith, and-step n s, and-step p n, sub-low s p e, ih (p / 2) (n / 2) (sub-high s p e) (omega (arith, and-step p n))))
 
-pub clause-length : (p n : ℕ) → p < 2 ^ 32 → n < 2 ^ 32 → bitAnd p n ≡ 0 → length (clauseOf p n) ≡ 2 ^ ones p
+-- the subsets of a mask are apart from whatever the mask is apart from
+pub subsets-apart : (d p n : ℕ) → bitAnd p n ≡ 0 → Apart n (subsetsOf d p)
 unfolding value
+subsets-apart d p n e = all-map (λ s. T (value s p)) (λ s. bitAnd n s ≡ 0) (subsetsOf d p) (λ s v. within-apart s p n (eqb→eq _ _ v) e) (subsets-within d p)
+
+-- the length of a clause with no variable both ways
+pub clause-length : (p n : ℕ) → p < 2 ^ 32 → n < 2 ^ 32 → bitAnd p n ≡ 0 → length (clauseOf p n) ≡ 2 ^ ones p
 clause-length p n hp hn e = ap length (clause-subsets p n hp hn)
-    ∙ length-normal before ascending written ascends (map (bitOr n) (subsetsOf 32 p)) (times-ascend n (subsetsOf 32 p) apart (subsets-ascend 32 p))
-    ∙ length-map (subsetsOf 32 p) (bitOr n) ∙ length-subsets p hp
-  where
-    apart : Apart n (subsetsOf 32 p)
-    apart = all-map (λ s. T (value s p)) (λ s. bitAnd n s ≡ 0) (subsetsOf 32 p) (λ s v. within-apart s p n (eqb→eq _ _ v) e) (subsets-within 32 p)
+    ∙ length-joined n (subsetsOf 32 p) (subsets-apart 32 p n e) (subsets-ascend 32 p) ∙ length-subsets p hp

@@ -1,8 +1,8 @@
--- Products by a table: where the terms of two polynomials have few variables together, each subset of these variables has a place in a table.
+-- Products by a table: where the products of the terms of two polynomials differ in few variables, each subset of these has a place in a table.
 use mathlib.Core.Bool.{Bool, cond, _&&_}
 use mathlib.Core.List.{List, [], _∷_, map}
 use Prim.Native.Nat.{ℕ, zero, suc, _*_}
-use lib.Bits.{bitOr, bitXor}
+use lib.Bits.{bitAnd, bitOr, bitXor}
 use lib.Dec.{eqb, leb, ltb}
 use lib.ListN.{length, getD, set}
 use Rattle.term.specs.Term.{degreeOf}
@@ -16,13 +16,26 @@ joined v (t ∷ f) = joined (bitOr v t) f
 abbrev pub variablesOf : List ℕ → List ℕ → ℕ
 variablesOf f g = joined (joined 0 f) g
 
+-- the variables of v that every term of a list has
+unfoldable pub shared : ℕ → List ℕ → ℕ
+shared v [] = v
+shared v (t ∷ f) = shared (bitAnd v t) f
+
+-- the variables that every product of a term of f with a term of g has
+abbrev pub commonOf : List ℕ → List ℕ → ℕ
+commonOf f g = bitOr (shared 4294967295 f) (shared 4294967295 g)
+
+-- the others: in these the products differ
+abbrev pub varyingOf : List ℕ → List ℕ → ℕ
+varyingOf f g = bitXor (bitOr (variablesOf f g) (commonOf f g)) (commonOf f g)
+
 -- how many variables there may be for so many pairs of terms, if a table is to pay
 abbrev pub mostVariables : ℕ → ℕ
 mostVariables pairs = cond (leb pairs 64) 8 (cond (leb pairs 128) 10 12)
 
 -- whether a product is made by a table
 abbrev pub suitable : List ℕ → List ℕ → Bool
-suitable f g = ltb 16 (length f * length g) && leb (degreeOf (variablesOf f g)) (mostVariables (length f * length g))
+suitable f g = ltb 16 (length f * length g) && leb (degreeOf (varyingOf f g)) (mostVariables (length f * length g))
 
 -- a place where a term has variable i, and 0 where it has not
 abbrev pub digit : ℕ → ℕ → ℕ → ℕ

@@ -1,36 +1,55 @@
 -- Laws of products by a table: the terms whose places are left at 1 are those of the product.
 use mathlib.Core.Path.{_≡_, refl, sym, ap, ap₂, _∙_, subst}
-use mathlib.Core.Bool.{Bool, true, false, not, cond}
+use mathlib.Core.Bool.{Bool, true, false, not, cond, _&&_}
 use mathlib.Core.List.{List, [], _∷_, _++_, map, map-append}
-use Prim.Native.Nat.{ℕ, zero, suc, _+_, _*_, _/_, _%_, _^_, _≤_, _<_}
+use Prim.Native.Nat.{ℕ, zero, suc, _+_, _*_, _/_, _%_, _^_, _≤_, _<_, min, max}
 use native.Mathlib.Nat.{mul-le-mul-right, one-mul, zero-mul, mod-one, mod-eq-of-lt, le-of-suc-le-suc, not-suc-le-zero}
 use native.Mathlib.Omega.{arith}
-use lib.Bits.{bitAnd, bitOr, bitXor, or-lt, or-shifted-r, or-block, or-shr, or-mod, or-zero-r, and-le-r}
+use lib.Bits.{bitAnd, bitOr, bitXor, or-step, or-lt, or-shifted-r, or-block, or-shr, or-mod, or-zero-r, or-disjoint, xor-shr, xor-add-and, and-comm, and-zero-r, and-le-r}
 use lib.Count.{ones}
 use lib.Dec.{T, eqb, eqb→eq, leb, leb→le, ltb, ltb→lt}
 use lib.ListN.{length, getD, replicate, set, length-set, length-append, length-map, length-replicate, getD-replicate, List·getD-append}
 use lib.Seq.{getD-set-same, getD-set-other, getD-append-add}
 use borrow.Author.Tests.{eqb-true, eqb-false, ne-eqb}
 use Rattle.term.specs.Term.{value, degreeOf, before}
-use Rattle.term.specs.TermLaws.{bit, value-or, value-self, value-bits}
-use Rattle.run.specs.Boolean.{bool-ext, of-true, left, right, eq→eqb, eqb-self, cond-ind}
+use Rattle.term.specs.TermLaws.{bit, value-self, value-bits}
+use Rattle.run.specs.Boolean.{bool-ext, right, eq→eqb, eqb-self, cond-ind}
 use Rattle.run.specs.F2.{_⊕_, ⊕-assoc, ⊕-left, ⊕-false}
 use Rattle.run.specs.Run.{After, Sorted, All, odd}
 use Rattle.run.specs.RunLaws.{odd-after, after-all, all-after, normal-same}
-use Rattle.polynomial.specs.ClauseLaws.{has-one, has-none, mod-suc, subsets-count, subsets-within, ascending, ascends, all-map, subsets-ascend}
-use Rattle.polynomial.specs.Few.{joined, variablesOf, mostVariables, suitable, digit, indexOf, productIndices, toggled, chosen}
+use Rattle.polynomial.specs.ClauseLaws.{has-one, has-none, and-bit, has-and, mod-suc, subsets-count, subsets-within, ascending, ascends, all-map, subsets-ascend, subsets-apart}
+use Rattle.polynomial.specs.Few.{joined, variablesOf, shared, commonOf, varyingOf, mostVariables, suitable, digit, indexOf, productIndices, toggled, chosen}
 use Rattle.polynomial.specs.Polynomial.{normal, unions, productOf, has, subsetsOf, Uses}
-use Rattle.polynomial.specs.PolynomialLaws.{written, unions-uses}
+use Rattle.polynomial.specs.PolynomialLaws.{written, times-all, unions-all, unions-uses}
 
--- ---- the variables of two lists of terms
+-- ---- masks, bit by bit
+or-bit : (i s t : ℕ) → bit i (bitOr s t) ≡ max (bit i s) (bit i t)
+or-bit i s t = omega (arith, or-shr s t i, or-step (s / 2 ^ i) (t / 2 ^ i))
+
+xor-bit : (i s t : ℕ) → bit i (bitXor s t) + min (bit i s) (bit i t) * 2 ≡ bit i s + bit i t
+xor-bit i s t = omega (arith, xor-shr s t i, xor-add-and (s / 2 ^ i) (t / 2 ^ i))
+
+same-bits : (s t : ℕ) → ((i : ℕ) → bit i s ≡ bit i t) → s ≡ t
+unfolding value
+same-bits s t h =
+    sym (eqb→eq (bitAnd s t) s (value-bits s t .1 (λ i. omega (arith, h i)))) ∙ and-comm s t
+    ∙ eqb→eq (bitAnd t s) t (value-bits t s .1 (λ i. omega (arith, h i)))
+
+no-bits : (t : ℕ) → ((i : ℕ) → bit i t ≤ 0) → t ≡ 0
+unfolding value
+no-bits t h = sym (eqb→eq (bitAnd t 0) t (value-bits t 0 .1 (λ i. omega (arith, h i)))) ∙ and-zero-r t
+
 value-trans : (s t u : ℕ) → T (value s t) → T (value t u) → T (value s u)
 value-trans s t u h k = value-bits s u .1 (λ i. omega (arith, value-bits s t .0 h i, value-bits t u .0 k i))
 
+-- two masks are within what they have together, and what they share is within both
 value-joined : (s t : ℕ) → T (value s (bitOr s t)) × T (value t (bitOr s t))
-value-joined s t =
-    let w = rw (value-or s t (bitOr s t)) at (value-self (bitOr s t)) in
-    (left (value s (bitOr s t)) (value t (bitOr s t)) w, right (value s (bitOr s t)) (value t (bitOr s t)) w)
+value-joined s t = (value-bits s (bitOr s t) .1 (λ i. omega (arith, or-bit i s t)), value-bits t (bitOr s t) .1 (λ i. omega (arith, or-bit i s t)))
 
+value-met : (s t : ℕ) → T (value (bitAnd s t) s) × T (value (bitAnd s t) t)
+value-met s t = (value-bits (bitAnd s t) s .1 (λ i. omega (arith, and-bit i s t)), value-bits (bitAnd s t) t .1 (λ i. omega (arith, and-bit i s t)))
+
+-- ---- the variables of two lists of terms
 joined-keeps : (v : ℕ) (f : List ℕ) → T (value v (joined v f))
 unfolding joined
 joined-keeps v [] = value-self v
@@ -41,12 +60,80 @@ unfolding joined
 joined-uses v [] = tt
 joined-uses v (t ∷ f) = (value-trans t (bitOr v t) (joined (bitOr v t) f) (value-joined v t .1) (joined-keeps (bitOr v t) f), joined-uses (bitOr v t) f)
 
-pub variables-left : (f g : List ℕ) → Uses (variablesOf f g) f
+variables-left : (f g : List ℕ) → Uses (variablesOf f g) f
 variables-left f g = all-map (λ t. T (value t (joined 0 f))) (λ t. T (value t (variablesOf f g))) f
     (λ t h. value-trans t (joined 0 f) (variablesOf f g) h (joined-keeps (joined 0 f) g)) (joined-uses 0 f)
 
-pub variables-right : (f g : List ℕ) → Uses (variablesOf f g) g
+variables-right : (f g : List ℕ) → Uses (variablesOf f g) g
 variables-right f g = joined-uses (joined 0 f) g
+
+-- ---- the variables that every term of a list has, and those that every product has
+shared-within : (v : ℕ) (f : List ℕ) → T (value (shared v f) v)
+unfolding shared
+shared-within v [] = value-self v
+shared-within v (t ∷ f) = value-trans (shared (bitAnd v t) f) (bitAnd v t) v (shared-within (bitAnd v t) f) (value-met v t .0)
+
+-- a mask is within each term of a list
+abbrev InEach : ℕ → List ℕ → Type 0
+InEach c f = All (λ t. T (value c t)) f
+
+shared-each : (v : ℕ) (f : List ℕ) → InEach (shared v f) f
+unfolding shared
+shared-each v [] = tt
+shared-each v (t ∷ f) = (value-trans (shared (bitAnd v t) f) (bitAnd v t) t (shared-within (bitAnd v t) f) (value-met v t .1), shared-each (bitAnd v t) f)
+
+common-each : (f g : List ℕ) → InEach (commonOf f g) (unions f g)
+common-each f g = unions-all (λ t. T (value a t)) (λ u. T (value b u)) (λ x. T (value (bitOr a b) x)) f g
+    (λ t u h k. value-bits (bitOr a b) (bitOr t u) .1 (λ i. omega (arith, or-bit i a b, or-bit i t u, value-bits a t .0 h i, value-bits b u .0 k i)))
+    (shared-each 4294967295 f) (shared-each 4294967295 g)
+  where
+    a : ℕ
+    a = shared 4294967295 f
+
+    b : ℕ
+    b = shared 4294967295 g
+
+-- the variables in which products differ are apart from those that every product has
+pub varying-apart : (f g : List ℕ) → bitAnd (varyingOf f g) (commonOf f g) ≡ 0
+varying-apart f g = no-bits (bitAnd (varyingOf f g) c) (λ i. omega (arith, and-bit i (varyingOf f g) c, xor-bit i (bitOr v c) c, or-bit i v c))
+  where
+    c : ℕ
+    c = commonOf f g
+
+    v : ℕ
+    v = variablesOf f g
+
+-- ---- a term that is a mask c with some variables of a mask m
+abbrev Joins : ℕ → ℕ → ℕ → Type 0
+Joins c m t = bitOr c (bitAnd t m) ≡ t
+
+-- so is each term between c and v, for m the variables of v without those of c
+rest-joins : (v c t : ℕ) → T (value c t) → T (value t v) → Joins c (bitXor (bitOr v c) c) t
+rest-joins v c t h k = same-bits (bitOr c (bitAnd t m)) t
+    (λ i. omega (arith, or-bit i c (bitAnd t m), and-bit i t m, xor-bit i (bitOr v c) c, or-bit i v c, value-bits c t .0 h i, value-bits t v .0 k i))
+  where
+    m : ℕ
+    m = bitXor (bitOr v c) c
+
+-- and c with each subset of m
+subset-joins : (c m s : ℕ) → T (value s m) → Joins c m (bitOr c s)
+subset-joins c m s h = same-bits (bitOr c (bitAnd (bitOr c s) m)) (bitOr c s)
+    (λ i. omega (arith, or-bit i c (bitAnd (bitOr c s) m), and-bit i (bitOr c s) m, or-bit i c s, value-bits s m .0 h i))
+
+all-both : (P Q : ℕ → Type 0) (l : List ℕ) → All P l → All Q l → All (λ t. P t × Q t) l
+all-both P Q [] a b = tt
+all-both P Q (t ∷ l) a b = ((a .0, b .0), all-both P Q l (a .1) (b .1))
+
+-- every product has the common variables, and some of the others
+products-join : (f g : List ℕ) → All (Joins (commonOf f g) (varyingOf f g)) (unions f g)
+products-join f g = all-map (λ t. T (value c t) × T (value t v)) (Joins c (varyingOf f g)) (unions f g) (λ t h. rest-joins v c t (h .0) (h .1))
+    (all-both (λ t. T (value c t)) (λ t. T (value t v)) (unions f g) (common-each f g) (unions-uses v f g (variables-left f g) (variables-right f g)))
+  where
+    c : ℕ
+    c = commonOf f g
+
+    v : ℕ
+    v = variablesOf f g
 
 -- ---- the index of a term, digit by digit
 digit-times : (i n t : ℕ) → digit i n t ≡ bit i t * n
@@ -61,13 +148,11 @@ bit-le d t n =
     let b : bit d t ≤ 1 = omega arith in
     omega (arith, mul-le-mul-right n b, one-mul n)
 
-or-bit : (d s t : ℕ) → bit d (bitOr s t) ≡ bitOr (bit d s) (bit d t)
-or-bit d s t = ap (λ (x : ℕ). x % 2) (or-shr s t d) ∙ or-mod (s / 2 ^ d) (t / 2 ^ d) 1
-
 digit-or : (d k s t x y : ℕ) → x < 2 ^ k → y < 2 ^ k
     → bitOr (bitOr x y) (digit d (2 ^ k) (bitOr s t)) ≡ bitOr (bitOr x (digit d (2 ^ k) s)) (bitOr y (digit d (2 ^ k) t))
 digit-or d k s t x y hx hy =
-    digit-added d k (bitOr s t) (bitOr x y) (or-lt k x y hx hy) ∙ ap (λ (b : ℕ). b * 2 ^ k + bitOr x y) (or-bit d s t)
+    digit-added d k (bitOr s t) (bitOr x y) (or-lt k x y hx hy)
+    ∙ ap (λ (b : ℕ). b % 2 * 2 ^ k + bitOr x y) (or-shr s t d) ∙ ap (λ (b : ℕ). b * 2 ^ k + bitOr x y) (or-mod (s / 2 ^ d) (t / 2 ^ d) 1)
     ∙ sym (or-block k (bit d s) (bit d t) x y hx hy) ∙ ap₂ bitOr (sym (digit-added d k s x hx)) (sym (digit-added d k t y hy))
 
 -- ---- the index of a term: it is below the number of subsets, and that of a product is the union of both
@@ -103,16 +188,17 @@ index-or (suc d) m s t = rw (index-or d m s t, subsets-count d m) (go (has d m))
         (rw (subsets-count d m) at (index-lt d m s)) (rw (subsets-count d m) at (index-lt d m t))
     go false = refl
 
--- ---- a term within a mask stands at its index among the mask's subsets
+-- ---- at the index of a term among a mask's subsets stands what the term has of the mask
 getD-map : (φ : ℕ → ℕ) (l : List ℕ) (i : ℕ) → i < length l → getD (map φ l) i 0 ≡ φ (getD l i 0)
 getD-map φ [] i h = absurd (not-suc-le-zero h)
 getD-map φ (t ∷ l) zero h = refl
 getD-map φ (t ∷ l) (suc i) h = getD-map φ l i (le-of-suc-le-suc h)
 
-index-place : (d m t : ℕ) → T (value t m) → getD (subsetsOf d m) (indexOf d m t) 0 ≡ t % 2 ^ d
+index-place : (d m t : ℕ) → getD (subsetsOf d m) (indexOf d m t) 0 ≡ bitAnd t m % 2 ^ d
 unfolding indexOf subsetsOf
-index-place zero m t h = sym (mod-one t)
-index-place (suc d) m t h = go (has d m) (has d t) within (index-lt d m t) (index-place d m t h) ∙ sym (mod-suc d t)
+index-place zero m t = sym (mod-one (bitAnd t m))
+index-place (suc d) m t = go (has d m) (has d t) (index-lt d m t) (index-place d m t)
+    ∙ sym (mod-suc d (bitAnd t m) ∙ ap (λ (b : Bool). cond b (bitOr (2 ^ d) r) r) (has-and d t m))
   where
     S : List ℕ
     S = subsetsOf d m
@@ -120,29 +206,22 @@ index-place (suc d) m t h = go (has d m) (has d t) within (index-lt d m t) (inde
     x : ℕ
     x = indexOf d m t
 
-    within : T (has d t) → T (has d m)
-    within e = eq→eqb (bit d m) 1 (omega (arith, has-one d t e, value-bits t m .0 h d))
+    r : ℕ
+    r = bitAnd t m % 2 ^ d
 
     place-joined : x < length S → bitOr x (length S) ≡ length S + x
     place-joined l = rw (subsets-count d m) (rw one-mul at (or-shifted-r 1 (count d m) x (rw (subsets-count d m) at l)))
 
-    go : (b c : Bool) → (T c → T b) → x < length S → getD S x 0 ≡ t % 2 ^ d
-        → getD (cond b (S ++ map (bitOr (2 ^ d)) S) S) (cond b (bitOr x (cond c (length S) 0)) x) 0 ≡ cond c (bitOr (2 ^ d) (t % 2 ^ d)) (t % 2 ^ d)
-    go true true i l e = ap (λ (j : ℕ). getD (S ++ map (bitOr (2 ^ d)) S) j 0) (place-joined l)
+    go : (b c : Bool) → x < length S → getD S x 0 ≡ r
+        → getD (cond b (S ++ map (bitOr (2 ^ d)) S) S) (cond b (bitOr x (cond c (length S) 0)) x) 0 ≡ cond (c && b) (bitOr (2 ^ d) r) r
+    go true true l e = ap (λ (j : ℕ). getD (S ++ map (bitOr (2 ^ d)) S) j 0) (place-joined l)
         ∙ getD-append-add S (map (bitOr (2 ^ d)) S) x 0 ∙ getD-map (bitOr (2 ^ d)) S x l ∙ ap (bitOr (2 ^ d)) e
-    go true false i l e = ap (λ (j : ℕ). getD (S ++ map (bitOr (2 ^ d)) S) j 0) (or-zero-r x) ∙ List·getD-append S (map (bitOr (2 ^ d)) S) 0 x l ∙ e
-    go false true i l e = absurd (i tt)
-    go false false i l e = e
+    go true false l e = ap (λ (j : ℕ). getD (S ++ map (bitOr (2 ^ d)) S) j 0) (or-zero-r x) ∙ List·getD-append S (map (bitOr (2 ^ d)) S) 0 x l ∙ e
+    go false true l e = e
+    go false false l e = e
 
-module _ (m : ℕ) (fits : m < 2 ^ 32) where
-  index-subset : (t : ℕ) → T (value t m) → getD (subsetsOf 32 m) (indexOf 32 m t) 0 ≡ t
-  unfolding value
-  index-subset t h = index-place 32 m t h ∙ mod-eq-of-lt (omega (arith, and-le-r t m, eqb→eq (bitAnd t m) t h))
-
-  index-same : (s t : ℕ) → T (value s m) → T (value t m) → eqb (indexOf 32 m s) (indexOf 32 m t) ≡ eqb s t
-  index-same s t hs ht = bool-ext (eqb (indexOf 32 m s) (indexOf 32 m t)) (eqb s t)
-      (λ h. eq→eqb s t (sym (index-subset s hs) ∙ ap (λ (i : ℕ). getD (subsetsOf 32 m) i 0) (eqb→eq _ _ h) ∙ index-subset t ht))
-      (λ h. eq→eqb _ _ (ap (indexOf 32 m) (eqb→eq s t h)))
+index-subset : (m t : ℕ) → m < 2 ^ 32 → getD (subsetsOf 32 m) (indexOf 32 m t) 0 ≡ bitAnd t m
+index-subset m t h = index-place 32 m t ∙ mod-eq-of-lt (omega (arith, and-le-r t m))
 
 -- ---- a table toggled at each number of a list: a place holds whether its number comes an odd number of times
 pub length-toggled : (table l : List ℕ) → length (toggled table l) ≡ length table
@@ -179,7 +258,7 @@ pub toggled-zeros : (n : ℕ) (l : List ℕ) (i : ℕ) → i < n → getD (toggl
 toggled-zeros n l i h = toggled-place l (replicate n 0) i false (rw (length-replicate {A = ℕ} n 0) h) (getD-replicate n i 0 0 h)
 
 -- ---- the numbers of a list whose places are not 0
-chosen-all : (P : ℕ → Type 0) (l table : List ℕ) → All P l → All P (chosen l table)
+pub chosen-all : (P : ℕ → Type 0) (l table : List ℕ) → All P l → All P (chosen l table)
 unfolding chosen
 chosen-all P [] table a = tt
 chosen-all P (t ∷ l) [] a = tt
@@ -229,11 +308,12 @@ unfolding odd
 odd-none P t [] n a = refl
 odd-none P t (u ∷ l) n a = rw (ne-eqb t u (λ e. n (subst P (sym e) (a .0)))) (odd-none P t l n (a .1))
 
-odd-map : (P : ℕ → Type 0) (φ : ℕ → ℕ) (t : ℕ) (l : List ℕ) → ((s t : ℕ) → P s → P t → eqb (φ s) (φ t) ≡ eqb s t) → P t → All P l
+odd-map : (P : ℕ → Type 0) (φ : ℕ → ℕ) (t : ℕ) (l : List ℕ) → ((s t : ℕ) → P s → P t → φ s ≡ φ t → s ≡ t) → P t → All P l
     → odd (φ t) (map φ l) ≡ odd t l
 unfolding odd
 odd-map P φ t [] same h a = refl
-odd-map P φ t (u ∷ l) same h a = ap₂ _⊕_ (same t u h (a .0)) (odd-map P φ t l same h (a .1))
+odd-map P φ t (u ∷ l) same h a = ap₂ _⊕_ (bool-ext (eqb (φ t) (φ u)) (eqb t u)
+    (λ e. eq→eqb t u (same t u h (a .0) (eqb→eq (φ t) (φ u) e))) (λ e. eq→eqb (φ t) (φ u) (ap φ (eqb→eq t u e)))) (odd-map P φ t l same h (a .1))
 
 -- ---- the product by a table
 unions-map : (φ : ℕ → ℕ) (f g : List ℕ) → ((s t : ℕ) → φ (bitOr s t) ≡ bitOr (φ s) (φ t)) → unions (map φ f) (map φ g) ≡ map φ (unions f g)
@@ -249,52 +329,66 @@ unions-map φ (t ∷ f) g h = ap₂ _++_ (times g) (unions-map φ f g h) ∙ sym
 abbrev tableOf : ℕ → ℕ → List ℕ → List ℕ
 tableOf n m l = toggled (replicate n 0) (map (indexOf 32 m) l)
 
-module _ (m n : ℕ) (l : List ℕ) (fits : m < 2 ^ 32) (room : length (subsetsOf 32 m) ≤ n) (uses : Uses m l) where
-  table-odd : (t : ℕ) → odd t (chosen (subsetsOf 32 m) (tableOf n m l)) ≡ odd t l
-  table-odd t = go (value t m) refl
-    where
-      S : List ℕ
-      S = subsetsOf 32 m
+-- a term comes among the chosen subsets of m, each joined to c, as often as among the terms that toggled the table
+table-odd : (c m n t : ℕ) (l : List ℕ) → m < 2 ^ 32 → length (subsetsOf 32 m) ≤ n → bitAnd m c ≡ 0 → All (Joins c m) l
+    → odd t (map (bitOr c) (chosen (subsetsOf 32 m) (tableOf n m l))) ≡ odd t l
+table-odd c m n t l fits room apart joins = go (eqb (bitOr c (bitAnd t m)) t) refl
+  where
+    S : List ℕ
+    S = subsetsOf 32 m
 
-      table : List ℕ
-      table = tableOf n m l
+    table : List ℕ
+    table = tableOf n m l
 
-      i : ℕ
-      i = indexOf 32 m t
+    i : ℕ
+    i = indexOf 32 m t
 
-      Within : ℕ → Type 0
-      Within s = T (value s m)
+    Free : ℕ → Type 0
+    Free s = bitAnd c s ≡ 0
 
-      enough : length S ≤ length table
-      enough = omega (arith, length-toggled (replicate n 0) (map (indexOf 32 m) l), length-replicate {A = ℕ} n 0)
+    free : All Free S
+    free = subsets-apart 32 m c apart
 
-      go : (b : Bool) → value t m ≡ b → odd t (chosen S table) ≡ odd t l
-      go true e = ap (λ (u : ℕ). odd u (chosen S table)) (sym (index-subset m fits t (of-true e)))
-          ∙ chosen-odd S table i (odd i (map (indexOf 32 m) l)) (subsets-ascend 32 m) (index-lt 32 m t) enough
-          (toggled-zeros n (map (indexOf 32 m) l) i (omega (arith, index-lt 32 m t)))
-          ∙ odd-map Within (indexOf 32 m) t l (index-same m fits) (of-true e) uses
-      go false e = odd-none Within t (chosen S table) (λ v. rw e at v) (chosen-all Within S table (subsets-within 32 m))
-          ∙ sym (odd-none Within t l (λ v. rw e at v) uses)
+    -- masks that are free of c are the same if they are so joined to c, and terms that have c if their indices are the same
+    same-free : (s u : ℕ) → Free s → Free u → bitOr c s ≡ bitOr c u → s ≡ u
+    same-free s u h k e = omega (arith, or-disjoint c s h, or-disjoint c u k)
 
-  table-normal : normal (chosen (subsetsOf 32 m) (tableOf n m l)) ≡ normal l
-  table-normal = normal-same before written (chosen (subsetsOf 32 m) (tableOf n m l)) l table-odd
+    same-index : (s u : ℕ) → Joins c m s → Joins c m u → indexOf 32 m s ≡ indexOf 32 m u → s ≡ u
+    same-index s u h k e = sym h ∙ ap (bitOr c) (sym (index-subset m s fits) ∙ ap (λ (x : ℕ). getD S x 0) e ∙ index-subset m u fits) ∙ k
 
--- a table toggled at each union of an index of f with one of g holds the product of f and g
-pub table-product : (m n : ℕ) (f g : List ℕ) → m < 2 ^ 32 → length (subsetsOf 32 m) ≤ n → Uses m f → Uses m g
-    → normal (chosen (subsetsOf 32 m) (toggled (replicate n 0) (productIndices m f g))) ≡ productOf f g
-table-product m n f g h room a b =
-    ap (λ (l : List ℕ). normal (chosen (subsetsOf 32 m) (toggled (replicate n 0) l))) (unions-map (indexOf 32 m) f g (index-or 32 m))
-    ∙ table-normal m n (unions f g) h room (unions-uses m f g a b)
+    enough : length S ≤ length table
+    enough = omega (arith, length-toggled (replicate n 0) (map (indexOf 32 m) l), length-replicate {A = ℕ} n 0)
+
+    go : (b : Bool) → eqb (bitOr c (bitAnd t m)) t ≡ b → odd t (map (bitOr c) (chosen S table)) ≡ odd t l
+    go true e =
+        let j : Joins c m t = eqb-true (bitOr c (bitAnd t m)) t e in
+        ap (λ (u : ℕ). odd u (map (bitOr c) (chosen S table))) (sym j ∙ ap (bitOr c) (sym (index-subset m t fits)))
+        ∙ odd-map Free (bitOr c) (getD S i 0) (chosen S table) same-free (all-at Free S i free (index-lt 32 m t)) (chosen-all Free S table free)
+        ∙ chosen-odd S table i (odd i (map (indexOf 32 m) l)) (subsets-ascend 32 m) (index-lt 32 m t) enough
+        (toggled-zeros n (map (indexOf 32 m) l) i (omega (arith, index-lt 32 m t)))
+        ∙ odd-map (Joins c m) (indexOf 32 m) t l same-index j joins
+    go false e = odd-none (Joins c m) t (map (bitOr c) (chosen S table)) (eqb-false (bitOr c (bitAnd t m)) t e)
+        (times-all (λ s. T (value s m)) (Joins c m) c (chosen S table) (subset-joins c m) (chosen-all (λ s. T (value s m)) S table (subsets-within 32 m)))
+        ∙ sym (odd-none (Joins c m) t l (eqb-false (bitOr c (bitAnd t m)) t e) joins)
+
+-- with c the variables that all products of f and g have and m those in which they differ: a table of m, toggled at each union of an index of f with one
+-- of g, holds the product of f and g, its terms each joined to c
+pub table-product : (c m n : ℕ) (f g : List ℕ) → c ≡ commonOf f g → m ≡ varyingOf f g → m < 2 ^ 32 → length (subsetsOf 32 m) ≤ n
+    → normal (map (bitOr c) (chosen (subsetsOf 32 m) (toggled (replicate n 0) (productIndices m f g)))) ≡ productOf f g
+table-product c m n f g ec em h room =
+    ap (λ (l : List ℕ). normal (map (bitOr c) (chosen (subsetsOf 32 m) (toggled (replicate n 0) l)))) (unions-map (indexOf 32 m) f g (index-or 32 m))
+    ∙ normal-same before written (map (bitOr c) (chosen (subsetsOf 32 m) (tableOf n m (unions f g)))) (unions f g)
+    (λ t. table-odd c m n t (unions f g) h room (rw (ec, em) (varying-apart f g)) (rw (ec, em) (products-join f g)))
 
 -- where a product is made by a table there are at most 12 variables
-pub suitable-few : (f g : List ℕ) → T (suitable f g) → degreeOf (variablesOf f g) ≤ 12
+pub suitable-few : (f g : List ℕ) → T (suitable f g) → degreeOf (varyingOf f g) ≤ 12
 suitable-few f g h = few (leb n 64) (leb n 128) (leb→le d (mostVariables n) (right (ltb 16 n) (leb d (mostVariables n)) h))
   where
     n : ℕ
     n = length f * length g
 
     d : ℕ
-    d = degreeOf (variablesOf f g)
+    d = degreeOf (varyingOf f g)
 
     few : (a b : Bool) → d ≤ cond a 8 (cond b 10 12) → d ≤ 12
     few true b k = omega arith

@@ -1,7 +1,6 @@
 -- Laws of the values, the order and the variables of polynomials, and of their being determined by their values.
 use mathlib.Core.Path.{_≡_, refl, sym, ap, ap₂, _∙_}
-use mathlib.Core.Logic.{_⊎_}
-use mathlib.Core.Bool.{Bool, true, false, _&&_, cond, and-false, true≢false}
+use mathlib.Core.Bool.{Bool, true, false, _&&_, and-false, true≢false}
 use mathlib.Core.List.{List, [], _∷_, _++_, map}
 use Prim.Native.Nat.{ℕ, _-_, _^_, _<_}
 use lib.Dec.{T, eqb, eqb→eq}
@@ -13,8 +12,8 @@ use Rattle.term.specs.Term.{value, before}
 use Rattle.run.specs.Boolean.{both, is-true, cond-ind, of-true}
 use Rattle.term.specs.TermLaws.{value-or, value-one, value-self, below-value, value-below}
 use Rattle.term.specs.OrderLaws.{before-irrefl, before-trans, before-total, value-before}
-use Rattle.run.specs.F2.{_⊕_, ⊕-assoc, ⊕-left, ⊕-cancel, ⊕-self, ⊕-zero, &&-⊕, ⊕-&&, ⊕-false}
-use Rattle.run.specs.Run.{StrictOrder, toggleBy, normalBy, After, Sorted, All, odd}
+use Rattle.run.specs.F2.{_⊕_, ⊕-assoc, ⊕-left, ⊕-cancel, ⊕-self, ⊕-zero, &&-⊕, ⊕-&&}
+use Rattle.run.specs.Run.{StrictOrder, toggleBy, normalBy, After, All, odd}
 use Rattle.run.specs.RunLaws.{odd-append, odd-normal, odd-unique, normal-all, normal-sorted, all-append}
 use Rattle.polynomial.specs.Polynomial.{eval, normal, unions, sumOf, productOf, Ordered, Uses, Below, termsOf, polynomialOf}
 use Rattle.polynomial.specs.declared.Polynomial.{Polynomial}
@@ -72,15 +71,25 @@ sum-ordered f g = normal-sorted before written (f ++ g)
 pub product-ordered : (f g : List ℕ) → Ordered (productOf f g)
 product-ordered f g = normal-sorted before written (unions f g)
 
+-- ---- what holds of each product of two terms
+pub times-all : (Q R : ℕ → Type 0) (t : ℕ) (g : List ℕ) → ((u : ℕ) → Q u → R (bitOr t u)) → All Q g → All R (map (bitOr t) g)
+times-all Q R t [] h b = tt
+times-all Q R t (u ∷ g) h b = (h u (b .0), times-all Q R t g h (b .1))
+
+pub unions-all : (P Q R : ℕ → Type 0) (f g : List ℕ) → ((t u : ℕ) → P t → Q u → R (bitOr t u)) → All P f → All Q g → All R (unions f g)
+unfolding unions
+unions-all P Q R [] g h a b = tt
+unions-all P Q R (t ∷ f) g h a b = all-append R (map (bitOr t) g) (unions f g) (times-all Q R t g (λ u. h t u (a .0)) b) (unions-all P Q R f g h (a .1) b)
+
 -- ---- results use only variables of their operands
+or-within : (m t u : ℕ) → T (value t m) → T (value u m) → T (value (bitOr t u) m)
+or-within m t u h k = of-true (value-or t u m ∙ is-true (value t m && value u m) (both (value t m) (value u m) h k))
+
 pub times-uses : (m t : ℕ) (g : List ℕ) → T (value t m) → Uses m g → Uses m (map (bitOr t) g)
-times-uses m t [] h b = tt
-times-uses m t (u ∷ g) h b = (of-true (value-or t u m ∙ is-true (value t m && value u m) (both (value t m) (value u m) h (b .0))), times-uses m t g h (b .1))
+times-uses m t g h b = times-all (λ x. T (value x m)) (λ x. T (value x m)) t g (λ u. or-within m t u h) b
 
 pub unions-uses : (m : ℕ) (f g : List ℕ) → Uses m f → Uses m g → Uses m (unions f g)
-unfolding unions
-unions-uses m [] g a b = tt
-unions-uses m (t ∷ f) g a b = all-append (λ x. T (value x m)) (map (bitOr t) g) (unions f g) (times-uses m t g (a .0) b) (unions-uses m f g (a .1) b)
+unions-uses m f g a b = unions-all (λ x. T (value x m)) (λ x. T (value x m)) (λ x. T (value x m)) f g (or-within m) a b
 
 pub sum-uses : (m : ℕ) (f g : List ℕ) → Uses m f → Uses m g → Uses m (sumOf f g)
 sum-uses m f g a b = normal-all before (λ x. T (value x m)) (f ++ g) (all-append (λ x. T (value x m)) f g a b)

@@ -1,5 +1,6 @@
-// Products of polynomials that have few variables together: each subset of these variables has a place in a table,
-// and each product of two terms toggles its place. These functions are for this crate.
+// Products of polynomials that differ in few variables: apart from the variables that all products of their terms have, each
+// subset of the others has a place in a table, and each product of two terms toggles its place. These functions are for this
+// crate.
 use crate::Outcome;
 use crate::Polynomial;
 use crate::clause::subsets;
@@ -8,13 +9,13 @@ use crate::ordered_keys;
 ghost use mathlib.Core.Path.{_≡_};
 ghost use mathlib.Core.List.{map};
 ghost use Prim.Native.Nat.{ℕ, _^_, _≤_, _<_};
-ghost use lib.Bits.{bitOr};
+ghost use lib.Bits.{bitAnd, bitOr};
 ghost use lib.ListN.{length, getD, take, replicate};
 ghost use Rattle.term.specs.Term.{degreeOf};
 ghost use Rattle.run.specs.Run.{All, Sorted};
 ghost use Rattle.polynomial.specs.ClauseLaws.{ascending};
-ghost use Rattle.polynomial.specs.Few.{joined, variablesOf, digit, withDigits, indexOf, productIndices, toggled, chosen, mostVariables, suitable};
-ghost use Rattle.polynomial.specs.Polynomial.{normal, unions, productOf, outcomeOf, Uses};
+ghost use Rattle.polynomial.specs.Few.{joined, variablesOf, shared, commonOf, varyingOf, digit, withDigits, indexOf, productIndices, toggled, chosen, mostVariables, suitable};
+ghost use Rattle.polynomial.specs.Polynomial.{normal, unions, productOf, outcomeOf};
 
 // The variables of a run of terms, joined to those of a mask.
 fn variables_with(mask: u32, terms: &[u32]) -> u32
@@ -34,6 +35,34 @@ fn variables(f: &[u32], g: &[u32]) -> u32
     ensures { λ r. ⌜ r ≡ variablesOf (now (f .entry)) (now (g .entry)) ⌝ }
 {
     variables_with(variables_with(0, f), g)
+}
+
+// The variables of a mask that every term of a run has.
+fn shared_with(mask: u32, terms: &[u32]) -> u32
+    ensures { λ r. ⌜ r ≡ shared mask (now (terms .entry)) ⌝ }
+{
+    let mut all = mask;
+    let mut i: usize = 0;
+    while i < terms.len() {
+        all = all & terms[i];
+        i += 1;
+    }
+    all
+}
+
+// The variables that every product of a term of f with a term of g has.
+fn common(f: &[u32], g: &[u32]) -> u32
+    ensures { λ r. ⌜ r ≡ commonOf (now (f .entry)) (now (g .entry)) ⌝ }
+{
+    shared_with(4294967295, f) | shared_with(4294967295, g)
+}
+
+// The other variables of two runs of terms.
+fn varying(f: &[u32], g: &[u32]) -> u32
+    ensures { λ r. ⌜ r ≡ varyingOf (now (f .entry)) (now (g .entry)) ⌝ }
+{
+    let fixed = common(f, g);
+    (variables(f, g) | fixed) ^ fixed
 }
 
 // A place where a term has a variable, and 0 where it has not.
@@ -131,10 +160,11 @@ fn choose(masks: &mut [u32], table: &[u8]) -> usize
     count
 }
 
-// The exact result whose terms are those of an ascending run of masks.
-fn arranged(masks: &[u32]) -> Outcome
-    requires { ⌜ Sorted ascending (now masks) ⌝ }
-    ensures { λ r. ⌜ r ≡ outcomeOf (normal (now (masks .entry))) ⌝ }
+// The exact result whose terms are those of a run of masks, each joined to a mask that is apart from all of them. The run
+// ascends.
+fn arranged(fixed: u32, masks: &[u32]) -> Outcome
+    requires { ⌜ Sorted ascending (now masks) × All (λ t. bitAnd fixed t ≡ 0) (now masks) ⌝ }
+    ensures { λ r. ⌜ r ≡ outcomeOf (normal (map (bitOr fixed) (now (masks .entry)))) ⌝ }
 {
     let count = masks.len();
     if 64 < count {
@@ -145,21 +175,28 @@ fn arranged(masks: &[u32]) -> Outcome
     }
     let mut keys = [0u64; 64];
     let mut spare = [0u64; 64];
-    let n = ordered_keys(0, masks, &mut keys, &mut spare);
+    let n = ordered_keys(fixed, masks, &mut keys, &mut spare);
     collect(&keys[..n])
 }
 
-// The product of two runs of terms within a mask, by a table of zeros with a place for each subset of the mask; the
-// other area is work space for the subsets.
-fn product_by(mask: u32, f: &[u32], g: &[u32], masks: &mut [u32], table: &mut [u8]) -> Outcome
-    requires { ⌜ (length (now f) ≤ 64) × (length (now g) ≤ 64) × (degreeOf mask ≤ 12) × Uses mask (now f) × Uses mask (now g)
+// The product of two runs of terms, of which one mask has the variables that every product has, and another the rest, by a
+// table of zeros with a place for each subset of the latter; the other area is work space for the subsets.
+fn product_by(
+    fixed: u32,
+    mask: u32,
+    f: &[u32],
+    g: &[u32],
+    masks: &mut [u32],
+    table: &mut [u8],
+) -> Outcome
+    requires { ⌜ (length (now f) ≤ 64) × (length (now g) ≤ 64) × (fixed ≡ commonOf (now f) (now g)) × (mask ≡ varyingOf (now f) (now g)) × (degreeOf mask ≤ 12)
         × (2 ^ degreeOf mask ≤ length (now masks)) × (2 ^ degreeOf mask ≤ length (now table)) × (now table ≡ replicate (length (now table)) 0) ⌝ }
     ensures { λ r. ⌜ r ≡ outcomeOf (productOf (now (f .entry)) (now (g .entry))) ⌝ }
 {
     toggle_products(mask, f, g, table);
     let places = subsets(mask, masks);
     let count = choose(&mut masks[..places], table);
-    arranged(&masks[..count])
+    arranged(fixed, &masks[..count])
 }
 
 // How many variables there may be for so many pairs of terms, if a table is to pay.
@@ -181,22 +218,23 @@ pub fn suits(f: &[u32], g: &[u32]) -> bool
     if pairs <= 16 {
         return false;
     }
-    term::degree(variables(f, g)) <= most_variables(pairs)
+    term::degree(varying(f, g)) <= most_variables(pairs)
 }
 
-// The product of two runs of terms with at most 12 variables together. Few variables get small areas, since an area
+// The product of two runs of terms whose products differ in at most 12 variables. Few variables get small areas, since an area
 // is cleared each time.
 pub fn product_few(f: &[u32], g: &[u32]) -> Outcome
-    requires { ⌜ (length (now f) ≤ 64) × (length (now g) ≤ 64) × (degreeOf (variablesOf (now f) (now g)) ≤ 12) ⌝ }
+    requires { ⌜ (length (now f) ≤ 64) × (length (now g) ≤ 64) × (degreeOf (varyingOf (now f) (now g)) ≤ 12) ⌝ }
     ensures { λ r. ⌜ r ≡ outcomeOf (productOf (now (f .entry)) (now (g .entry))) ⌝ }
 {
-    let mask = variables(f, g);
+    let fixed = common(f, g);
+    let mask = varying(f, g);
     if term::degree(mask) <= 8 {
         let mut masks = [0u32; 256];
         let mut table = [0u8; 256];
-        return product_by(mask, f, g, &mut masks, &mut table);
+        return product_by(fixed, mask, f, g, &mut masks, &mut table);
     }
     let mut masks = [0u32; 4096];
     let mut table = [0u8; 4096];
-    product_by(mask, f, g, &mut masks, &mut table)
+    product_by(fixed, mask, f, g, &mut masks, &mut table)
 }

@@ -1,14 +1,13 @@
--- `arranged` meets its contract: masks that ascend are different, so as many are left as there are.
+-- `arranged` meets its contract: masks that ascend, apart from a mask, are different with it too, so as many are left as there are.
 use mathlib.Core.Path.{sym, ap, _∙_}
+use mathlib.Core.List.{map}
 use native.Mathlib.Omega.{arith}
+use lib.Bits.{bitOr}
 use lib.ListN.{length}
 use lib.Seq.{length-take-le}
 use borrow.Author.Needs.{needs}
-use Rattle.term.specs.Term.{before}
-use Rattle.run.specs.RunLaws.{length-normal}
-use Rattle.polynomial.specs.ClauseLaws.{ascending, ascends}
+use Rattle.polynomial.specs.ClauseLaws.{length-joined}
 use Rattle.polynomial.specs.Polynomial.{normal, outcomeOf}
-use Rattle.polynomial.specs.PolynomialLaws.{written}
 use Rattle.polynomial.proofs.Keys.{below-each, outcome-long, run-masks}
 use Rattle.polynomial.proofs.few.arranged.Statement.{statement}
 use Rattle.polynomial.proofs.few.arranged.Tie as tie
@@ -17,7 +16,7 @@ returns : tie.Need-returns
 returns c =
     let s = c .before .before in
     let masks = s .args .masks .now in
-    outcome-long (normal masks) (length masks) (sym (length-normal before ascending written ascends masks (s .pre))) (c .if1 .taken)
+    outcome-long (normal (map (bitOr (s .args .fixed)) masks)) (length masks) (sym (length-joined (s .args .fixed) masks (s .pre .1) (s .pre .0))) (c .if1 .taken)
 
 slice-aggregate-ordered-keys : tie.Need-slice-aggregate-ordered-keys
 slice-aggregate-ordered-keys c = search needs
@@ -42,7 +41,7 @@ returns-2 c =
     let s = c .before .before .before .before .before .before .before .before .before in
     let masks = s .args .masks .now in
     let below = below-each masks (λ i h. omega (arith, c .before .before .before .before .before .before .before .before .shared-slice-known .given i)) in
-    c .collect .ensures ∙ ap outcomeOf (run-masks masks _ below (c .before .before .before .before .ordered-keys .ensures .1))
+    c .collect .ensures ∙ ap outcomeOf (run-masks (s .args .fixed) masks _ (s .fits .fixed .fits) below (c .before .before .before .before .ordered-keys .ensures .1))
 
 pub arranged-spec : {M : Type 1} → statement M
 arranged-spec =

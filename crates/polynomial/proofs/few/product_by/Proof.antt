@@ -1,15 +1,16 @@
--- `product_by` meets its contract: the masks chosen are different, and their sum is the product.
+-- `product_by` meets its contract: the masks chosen are different and apart from the common variables, and joined to these their sum is the product.
 use mathlib.Core.Path.{_≡_, sym, ap, _∙_, subst}
-use mathlib.Core.List.{List}
+use mathlib.Core.List.{List, map}
 use Prim.Native.Nat.{ℕ}
 use native.Mathlib.Omega.{arith}
+use lib.Bits.{bitAnd, bitOr}
 use lib.ListN.{length, replicate}
 use lib.Seq.{length-take-le}
 use borrow.Author.Needs.{needs}
 use Rattle.run.specs.Run.{Sorted}
-use Rattle.polynomial.specs.ClauseLaws.{length-subsets-le, ascending, subsets-ascend}
+use Rattle.polynomial.specs.ClauseLaws.{Apart, length-subsets-le, ascending, subsets-ascend, subsets-apart}
 use Rattle.polynomial.specs.Few.{productIndices, toggled, chosen}
-use Rattle.polynomial.specs.FewLaws.{chosen-sorted, table-product}
+use Rattle.polynomial.specs.FewLaws.{varying-apart, chosen-all, chosen-sorted, table-product}
 use Rattle.polynomial.specs.Polynomial.{normal, subsetsOf, outcomeOf}
 use Rattle.polynomial.proofs.FewSteps.{longer, table-small, chosen-front}
 use Rattle.polynomial.proofs.few.product_by.Statement.{statement}
@@ -58,12 +59,14 @@ slice-aggregate-arranged c = sym (length-take-le _ _ (slice-reshare-prefix-arran
 
 arranged-requires : tie.Need-arranged-requires
 arranged-requires c κs =
-    let m = c .before .before .before .before .before .before .before .before .before .before .before .before .before .before .before .before .before .before .args .mask in
+    let s = c .before .before .before .before .before .before .before .before .before .before .before .before .before .before .before .before .before .before in
+    let m = s .args .mask in
     let d = c .before .before .before .before .before .before .before .before .subsets in
     let h = c .before .before .before .choose in
-    subst (Sorted ascending)
+    let apart : bitAnd m (s .args .fixed) ≡ 0 = rw (s .pre .2, s .pre .3) (varying-apart (s .args .f .now) (s .args .g .now)) in
+    subst (λ (l : List ℕ). Sorted ascending l × Apart (s .args .fixed) l)
     (sym (chosen-front (subsetsOf 32 m) _ _ (h .last .0) _ (h .result) (h .ensures .0) (h .kept .0) (d .ensures .1) (h .ensures .1)))
-    (chosen-sorted ascending (subsetsOf 32 m) _ (subsets-ascend 32 m))
+    (chosen-sorted ascending (subsetsOf 32 m) _ (subsets-ascend 32 m), chosen-all (λ t. bitAnd (s .args .fixed) t ≡ 0) (subsetsOf 32 m) _ (subsets-apart 32 m (s .args .fixed) apart))
 
 same-length : tie.Need-same-length
 same-length c = search needs
@@ -78,11 +81,11 @@ returns c =
     let d = c .before .before .before .before .before .before .before .before .before .subsets in
     let h = c .before .before .before .before .choose in
     c .arranged .ensures
-    ∙ ap (λ (l : List ℕ). outcomeOf (normal l))
+    ∙ ap (λ (l : List ℕ). outcomeOf (normal (map (bitOr (s .args .fixed)) l)))
     (chosen-front (subsetsOf 32 m) _ _ (h .last .0) _ (h .result) (h .ensures .0) (h .kept .0) (d .ensures .1) (h .ensures .1)
     ∙ ap (chosen (subsetsOf 32 m)) (made (c .before .before .before .before .before .before .before .before .before .before .before .before .before)))
-    ∙ ap outcomeOf (table-product m (length (s .args .table .now)) (s .args .f .now) (s .args .g .now) (s .fits .mask .fits)
-    (omega (arith, length-subsets-le 32 m, s .pre .6)) (s .pre .3) (s .pre .4))
+    ∙ ap outcomeOf (table-product (s .args .fixed) m (length (s .args .table .now)) (s .args .f .now) (s .args .g .now) (s .pre .2) (s .pre .3) (s .fits .mask .fits)
+    (omega (arith, length-subsets-le 32 m, s .pre .6)))
 
 pub product-by-spec : {M : Type 1} → statement M
 product-by-spec =

@@ -21,8 +21,8 @@ returns c =
     let a = c .before .before .before .args in
     rw (le-ltb 16 (length (a .f .now) * length (a .g .now)) (c .if1 .taken))
 
-variables-requires : tie.Need-variables-requires
-variables-requires c κs = search needs
+varying-requires : tie.Need-varying-requires
+varying-requires c κs = search needs
 
 degree-requires : tie.Need-degree-requires
 degree-requires c κs = search needs
@@ -33,7 +33,7 @@ most-variables-requires c κs = search needs
 returns-2 : tie.Need-returns-2
 returns-2 c =
     let a = c .before .before .before .before .before .before .args in
-    ap₂ leb (c .before .degree .ensures ∙ ap degreeOf (c .before .before .variables .ensures)) (c .most-variables .ensures)
+    ap₂ leb (c .before .degree .ensures ∙ ap degreeOf (c .before .before .varying .ensures)) (c .most-variables .ensures)
     ∙ rw (lt-ltb 16 (length (a .f .now) * length (a .g .now)) (omega arith))
 
 pub suits-spec : {M : Type 1} → statement M
@@ -42,7 +42,7 @@ suits-spec =
     (tie.spec
     mul-pairs
     returns
-    variables-requires
+    varying-requires
     degree-requires
     most-variables-requires
     returns-2)

@@ -1,0 +1,19 @@
+-- `varying` meets its contract: the variables of both runs without the common ones.
+use mathlib.Core.Path.{ap₂}
+use Prim.Native.Nat.{ℕ}
+use lib.Bits.{bitOr, bitXor}
+use borrow.Author.Needs.{needs}
+use Rattle.polynomial.proofs.few.varying.Statement.{statement}
+use Rattle.polynomial.proofs.few.varying.Tie as tie
+
+common-requires : tie.Need-common-requires
+common-requires c κs = search needs
+
+variables-requires : tie.Need-variables-requires
+variables-requires c κs = search needs
+
+returns : tie.Need-returns
+returns c = ap₂ (λ (v k : ℕ). bitXor (bitOr v k) k) (c .variables .ensures) (c .before .common .ensures)
+
+pub varying-spec : {M : Type 1} → statement M
+varying-spec = tie.close (tie.spec common-requires variables-requires returns)
