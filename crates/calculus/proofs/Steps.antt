@@ -1,42 +1,39 @@
--- Laws of taking a step: what a rule's premises ask and what is held, the tests of the mode and of the operands, the changes that are planned, and the answer for a replacement.
+-- Laws of taking a step: what a rule's premises ask and what is held, the tests of the mode and of the operands, and the answer for a replacement.
 use mathlib.Core.Path.{_≡_, refl, sym, ap, subst, _∙_}
 use mathlib.Core.Bool.{Bool, true, false, cond, not, _&&_, _||_}
-use mathlib.Core.List.{List, [], _∷_, _++_}
-use Prim.Native.Nat.{ℕ, zero, suc, _-_, _≤_, _<_, _^_}
-use native.Mathlib.Nat.{le-trans}
+use mathlib.Core.List.{List, [], _∷_}
+use Prim.Native.Nat.{ℕ}
 use native.Mathlib.Omega.{arith}
-use lib.Dec.{T, leb, leb→le}
-use lib.IntN.{ℤ, pos, negsuc, _+ℤ_, negℤ, +ℤ-idl, +ℤ-idr}
+use lib.Dec.{T, leb}
+use lib.IntN.{ℤ, pos, negsuc, _+ℤ_, +ℤ-idl, +ℤ-idr}
 use lib.ListN.{length}
-use lib.Pow.{pow-mono}
-use lib.Signed.{leZ, mag}
+use lib.Signed.{leZ}
 use Rattle.run.specs.Boolean.{is-false, of-true}
 use Rattle.run.specs.Run.{sorted}
 use Rattle.term.specs.Term.{before}
-use Rattle.polynomial.specs.Polynomial.{orderOf, Below}
+use Rattle.polynomial.specs.Polynomial.{orderOf}
 use Rattle.polynomial.specs.OrderingLaws.{order-self, order-same}
 use Rattle.polynomial.specs.declared.Ordering.the-variants.{Same}
 use Rattle.configuration.specs.Weight.{limit, inRange}
-use Rattle.configuration.specs.Configuration.{Line, line, some, same, total, weight, add, addAll, negated, Every, below, isPolynomial, anyNegative}
-use Rattle.configuration.specs.ConfigurationLaws.{same-is, same-self}
-use Rattle.configuration.specs.Memory.{Memory, linesOf, sized, formed, wellFormed}
-use Rattle.configuration.specs.FormLaws.{polynomial-below, sized-not, sized-is}
-use Rattle.configuration.specs.MemoryLaws.{well-formed, every-append, formed-parts}
+use Rattle.configuration.specs.Configuration.{Line, line, some, same, total, weight, addAll, below, isPolynomial, anyNegative}
+use Rattle.configuration.specs.ConfigurationLaws.{same-is, same-self, netted, fit-ordered}
+use Rattle.configuration.specs.Memory.{Memory, memoryOf, linesOf, sized, formed, wellFormed}
+use Rattle.configuration.specs.FormLaws.{sized-not, sized-is}
+use Rattle.configuration.specs.MemoryLaws.{well-formed, formed-parts}
+use Rattle.configuration.specs.Index.{arranged, indexedOf, Kept}
 use Rattle.configuration.specs.ReplacementLaws.{Says, says}
-use Rattle.configuration.specs.Replacement.{Step, taken, refused, unless, within, changesOf, Small, replacementOf, after}
+use Rattle.configuration.specs.Replacement.{Step, taken, refused, unless, within, replacementOf, after, replaced}
+use Rattle.configuration.specs.declared.Head.{Head}
 use Rattle.configuration.specs.declared.Verdict.{Verdict}
 use Rattle.configuration.specs.declared.Verdict.the-variants.{Done, TooManyLines, WeightTooLarge}
-use Rattle.calculus.specs.Calculus.{premises, conclusions, changes, isPlain, amountFits, covers, there, allShort, step, objected, leftOf, leaves, judged, directStep}
-use Rattle.calculus.specs.CalculusLaws.{unless-taken, changes-fit, regroup}
-use Rattle.calculus.specs.declared.plan.Plan.{Plan}
+use Rattle.calculus.specs.Calculus.{premises, conclusions, changes, isPlain, amountFits, covers, there, allShort, step, objected, toldBy, Left, leftOf, leaves, judged, directStep}
+use Rattle.calculus.specs.CalculusLaws.{unless-taken, regroup}
 use Rattle.calculus.specs.declared.Rule.{Rule}
-use Rattle.calculus.specs.declared.Rule.the-variants.{Sum, Prod}
 use Rattle.calculus.specs.declared.Mode.{Mode}
 use Rattle.calculus.specs.declared.Mode.the-variants.{Plain, Signed}
 use Rattle.calculus.specs.declared.Objection.{Objection}
 use Rattle.calculus.specs.declared.Objection.the-variants.{Nothing}
-use Rattle.calculus.specs.declared.Answer.{Answer}
-use Rattle.calculus.specs.declared.Answer.the-variants.{Taken, Refused}
+use Rattle.calculus.specs.declared.Answer.the-variants.{Refused}
 use Rattle.run.specs.Boolean as B
 use Rattle.refusal.specs.declared.Reason.the-variants as Reasons
 
@@ -79,12 +76,8 @@ module _ (L : List Line) (f g : List ℕ) (w : ℤ) where
 
 -- ---- the tests that the plain mode alone makes
 module _ (d : Mode) (b : Bool) where
-  pub plain-tests : d ≡ Plain → (not (isPlain d && not b) ≡ b) × ((not (isPlain d) || b) ≡ b)
-  plain-tests e = (ap (λ (x : Mode). not (isPlain x && not b)) e ∙ back b, ap (λ (x : Mode). not (isPlain x) || b) e)
-    where
-      back : (b : Bool) → not (not b) ≡ b
-      back true = refl
-      back false = refl
+  pub plain-tests : d ≡ Plain → (not (isPlain d && b) ≡ not b) × ((not (isPlain d) || b) ≡ b)
+  plain-tests e = (ap (λ (x : Mode). not (isPlain x && b)) e, ap (λ (x : Mode). not (isPlain x) || b) e)
 
   pub signed-passes : d ≡ Signed → (not (isPlain d && b) ≡ true) × ((not (isPlain d) || b) ≡ true)
   signed-passes e = (ap (λ (x : Mode). not (isPlain x && b)) e, ap (λ (x : Mode). not (isPlain x) || b) e)
@@ -95,78 +88,17 @@ amount-in-range Plain (pos n) h = B.right (leb 1 n) (leb n limit) (of-true h)
 amount-in-range Plain (negsuc n) h = absurd (of-true h)
 amount-in-range Signed w h = B.left (inRange w) _ (of-true h)
 
--- ---- the changes that are planned
-twice-small : (w : ℤ) → T (inRange w) → (mag w < 2 ^ 42) × ((mag (negℤ w) < 2 ^ 42) × (mag (w +ℤ w) < 2 ^ 42))
-twice-small (pos zero) h = (omega arith, (omega arith, omega arith))
-twice-small (pos (suc n)) h = let k = leb→le (suc n) limit h in (omega arith, (omega arith, omega arith))
-twice-small (negsuc n) h = let k = leb→le (suc n) limit h in (omega arith, (omega arith, omega arith))
+-- ---- lines that were put in turn are those that the index had
+pub settled : (h : Head) (is ts : List ℕ) (ws : List ℤ) (cs ts′ : List ℕ) (ws′ : List ℤ) (cs′ : List ℕ) → (ts′ ≡ arranged 64 is ts) × (ws′ ≡ arranged 1 is ws) × (cs′ ≡ arranged 1 is cs)
+    → memoryOf h ts′ ws′ cs′ ≡ indexedOf h is ts ws cs
+settled h is ts ws cs ts′ ws′ cs′ e = rw (e .0, e .1, e .2)
 
-small-changes : (r : Rule) (f g : List ℕ) (w : ℤ) → T (inRange w) → Small 42 (changes r f g w)
-unfolding negated
-small-changes Sum f g w h = let k = twice-small w h in (k .1 .0, (k .1 .0, (k .0, (k .1 .1, tt))))
-small-changes Prod f g w h = let k = twice-small w h in (k .1 .0, (k .0, (k .0, tt)))
-
--- a line of nothing behind the changes changes nothing
-padded-small : (C : List Line) → Small 42 C → Small 42 (C ++ (line [] (pos 0) ∷ []))
-padded-small [] h = (omega arith, tt)
-padded-small (line f w ∷ C) h = (h .0, padded-small C (h .1))
-
-padded-same : (C L : List Line) → addAll (C ++ (line [] (pos 0) ∷ [])) L ≡ addAll C L
-unfolding addAll add
-padded-same [] L = refl
-padded-same (line f w ∷ C) L = padded-same C (add f w L)
-
--- changes that code makes are a rule's
-pub record Planned (r : Rule) (n : ℕ) (f g : List ℕ) (w : ℤ) (C : List Line) : Type 0 where
-  pub fit : Every (λ p. T (isPolynomial n p)) C
-  pub small : Small 42 C
-  pub alike : (L : List Line) → addAll C L ≡ addAll (changes r f g w) L
-
-module _ (r : Rule) (n : ℕ) (f g : List ℕ) (w : ℤ) (hf : T (isPolynomial n f)) (hg : T (isPolynomial n g)) (hw : T (inRange w))
-    (short : allShort (conclusions r f g w) ≡ true) where
-  planned : (C : List Line) → C ≡ changes r f g w → Planned r n f g w C
-  planned C e = record {
-    fit = rw e (changes-fit r f g w n hf hg (of-true short));
-    small = rw e (small-changes r f g w hw);
-    alike = λ L. ap (λ (D : List Line). addAll D L) e;
-  }
-
-  planned-padded : (C : List Line) → C ≡ changes r f g w ++ (line [] (pos 0) ∷ []) → Planned r n f g w C
-  unfolding below sorted
-  planned-padded C e = record {
-    fit = rw e (every-append (λ p. T (isPolynomial n p)) (changes r f g w) (line [] (pos 0) ∷ []) (changes-fit r f g w n hf hg (of-true short)) (tt, tt));
-    small = rw e (padded-small (changes r f g w) (small-changes r f g w hw));
-    alike = λ L. ap (λ (D : List Line). addAll D L) e ∙ padded-same (changes r f g w) L;
-  }
-
--- what a plan says of its changes
-abbrev pub Made : Rule → ℕ → List ℕ → List ℕ → ℤ → Plan → Type 0
-Made r n f g w p = (p .fits ≡ allShort (conclusions r f g w)) × (p .fits ≡ true → Planned r n f g w (changesOf (p .changes)))
-
-module _ (n : ℕ) (f g : List ℕ) (w : ℤ) where
-  pub made-as : (r s : Rule) (p q : Plan) → r ≡ s → p ≡ q → Made s n f g w q → Made r n f g w p
-  made-as r s p q e d h = subst (λ (x : Rule). Made x n f g w p) (sym e) (subst (λ (x : Plan). Made s n f g w x) (sym d) h)
-
-  module _ (hf : T (isPolynomial n f)) (hg : T (isPolynomial n g)) (hw : T (inRange w)) (q : Plan) where
-    pub made-sum : q .fits ≡ allShort (conclusions Sum f g w) → (q .fits ≡ true → changesOf (q .changes) ≡ changes Sum f g w) → Made Sum n f g w q
-    made-sum s m = (s, λ z. planned Sum n f g w hf hg hw (sym s ∙ z) (changesOf (q .changes)) (m z))
-
-    pub made-prod : q .fits ≡ allShort (conclusions Prod f g w) → (q .fits ≡ true → changesOf (q .changes) ≡ changes Prod f g w ++ (line [] (pos 0) ∷ []))
-        → Made Prod n f g w q
-    made-prod s m = (s, λ z. planned-padded Prod n f g w hf hg hw (sym s ∙ z) (changesOf (q .changes)) (m z))
-
--- ---- the terms of a configuration's polynomials are 32-bit numbers
-pub below-32 : (n : ℕ) (f : List ℕ) → n ≤ 32 → T (isPolynomial n f) → Below 32 f
-below-32 n f h k = go f (polynomial-below n f k)
-  where
-    go : (f : List ℕ) → Below n f → Below 32 f
-    go [] k = tt
-    go (t ∷ f) k = (le-trans (k .0) (pow-mono h), go f (k .1))
-
-pub table-formed : (m : Memory) → T (wellFormed m) → T (formed (length (m .counts)) m)
-table-formed m h =
-    let t : T (formed 128 m) = well-formed m h in
-    subst (λ (k : ℕ). T (formed k m)) (sym (formed-parts 128 m t .counts-length)) t
+-- ---- a table of 128 lines, in the words of the functions that take any
+pub any-table : (h : Head) (is ts : List ℕ) (ws : List ℤ) (cs : List ℕ) → Kept 128 h is ts ws cs → T (wellFormed (indexedOf h is ts ws cs))
+    → Kept (length cs) h is ts ws cs × T (formed (length cs) (indexedOf h is ts ws cs))
+any-table h is ts ws cs k t =
+    let e : 128 ≡ length cs = sym (k .counts-length) in
+    (subst (λ (c : ℕ). Kept c h is ts ws cs) e k, subst (λ (c : ℕ). T (formed c (indexedOf h is ts ws cs))) e (well-formed (indexedOf h is ts ws cs) t))
 
 -- ---- three tests in a row that answer nothing all hold
 all-pass : (a b c : Bool) (x y z : ℕ) (o : Objection) → o ≡ Nothing → ((s : Step) → objected o s ≡ unless a x (unless b y (unless c z s)))
@@ -196,18 +128,24 @@ module _ (r : Rule) (d : Mode) (f g : List ℕ) (w : ℤ) (L : List Line) (o : O
       amount-in-range d w (all-pass (not (isPlain d && anyNegative L)) (amountFits d w) (not (isPlain d) || there L (premises r f g w)) 12 8 9 o e j .1 .0)
 
 -- ---- a replacement's answer is the step's
-abbrev pub answered : Verdict → Answer
-answered Done = Taken
-answered TooManyLines = Refused 0 Reasons.TooManyLines
-answered WeightTooLarge = Refused 0 Reasons.WeightTooLarge
+abbrev pub leftBy : Memory → Verdict → Left
+leftBy m v = record { memory = m; told = toldBy v }
 
-pub answered-is : (m n : Memory) (v : Verdict) (N : List Line) → replacementOf n v ≡ after m (within N) → leftOf n (answered v) ≡ leaves m (within N)
+answered-is : (m n : Memory) (v : Verdict) (N : List Line) → replacementOf n v ≡ after m (within N) → leftBy n v ≡ leaves m (within N)
 answered-is m n v N e = go v (says m n N v e)
   where
-    go : (v : Verdict) → Says m n N (within N) v → leftOf n (answered v) ≡ leaves m (within N)
-    go Done h = rw (h .0) (ap (λ (x : Memory). leftOf x Taken) (h .1))
-    go TooManyLines h = rw (h .0) (ap (λ (x : Memory). leftOf x (Refused 0 Reasons.TooManyLines)) (h .1))
-    go WeightTooLarge h = rw (h .0) (ap (λ (x : Memory). leftOf x (Refused 0 Reasons.WeightTooLarge)) (h .1))
+    go : (v : Verdict) → Says m n N (within N) v → leftBy n v ≡ leaves m (within N)
+    go Done h = rw (h .0) (ap (λ (x : Memory). leftBy x Done) (h .1))
+    go TooManyLines h = rw (h .0) (ap (λ (x : Memory). leftBy x TooManyLines) (h .1))
+    go WeightTooLarge h = rw (h .0) (ap (λ (x : Memory). leftBy x WeightTooLarge) (h .1))
+
+-- changes that were folded among themselves first are the rule's
+pub changed-is : (C : List Line) (m n : Memory) (v : Verdict) → T (wellFormed m) → replacementOf n v ≡ replaced (addAll C []) m
+    → leftBy n v ≡ leaves m (within (addAll C (linesOf m)))
+unfolding replaced
+changed-is C m n v t e =
+    answered-is m n v (addAll (addAll C []) (linesOf m)) e
+    ∙ ap (λ (N : List Line). leaves m (within N)) (netted C (linesOf m) (fit-ordered (m .variables) (linesOf m) (formed-parts 128 m (well-formed m t) .fit)))
 
 -- ---- the tests of a step that is taken directly
 refuses : (b : Bool) (n : ℕ) (s : Step) → b ≡ false → refused n ≡ unless b n s

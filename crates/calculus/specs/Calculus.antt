@@ -12,6 +12,8 @@ use Rattle.polynomial.specs.Polynomial.{sumOf, productOf}
 use Rattle.configuration.specs.Weight.{limit, inRange, isZero}
 use Rattle.configuration.specs.Configuration.{Line, line, some, weight, addAll, negated, below, anyNegative}
 use Rattle.configuration.specs.Memory.{Memory, linesOf, imageOf, sized, wellFormed}
+use Rattle.configuration.specs.declared.Verdict.{Verdict}
+use Rattle.configuration.specs.declared.Verdict.the-variants.{Done, TooManyLines, WeightTooLarge}
 use Rattle.configuration.specs.Replacement.{Step, taken, refused, unless, within}
 use Rattle.refusal.specs.Refusal.{numberOf}
 use Rattle.calculus.specs.declared.Rule.{Rule}
@@ -81,6 +83,12 @@ pub data Told : Type 0 where
 abbrev pub toldOf : Answer → Told
 toldOf Taken = done
 toldOf (Refused k reason) = refusedAt k (numberOf reason)
+
+-- the same for a replacement, which a step makes
+abbrev pub toldBy : Verdict → Told
+toldBy Done = done
+toldBy TooManyLines = refusedAt 0 10
+toldBy WeightTooLarge = refusedAt 0 11
 
 pub record Left : Type 0 where
   pub memory : Memory

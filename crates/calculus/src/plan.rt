@@ -1,117 +1,140 @@
-// What a rule takes away and gives, worked out before the configuration is touched. Both plans are for `step` alone, which
-// has tested the amount and the operands.
-use configuration::Change;
-use polynomial::Polynomial;
+// What a rule takes away and gives, folded in a table of four lines before the configuration is touched. It is for
+// `step` alone, which has tested the amount and the operands and lends an empty table.
+use crate::Rule;
+use configuration::Head;
+use configuration::table::fold_in;
+use polynomial::front;
+use polynomial::product_of;
+use polynomial::sum_of;
 ghost use mathlib.Core.Path.{_≡_};
-ghost use mathlib.Core.Bool.{true};
-ghost use mathlib.Core.List.{_++_, [], _∷_};
+ghost use mathlib.Core.Bool.{true, false};
+ghost use mathlib.Core.List.{[], _∷_};
+ghost use Prim.Native.Nat.{_≤_};
 ghost use lib.Dec.{T};
 ghost use lib.IntN.{pos};
-ghost use Rattle.polynomial.specs.Polynomial.{termsOf, Below};
+ghost use lib.ListN.{replicate};
 ghost use Rattle.configuration.specs.Weight.{inRange};
-ghost use Rattle.configuration.specs.Configuration.{line};
-ghost use Rattle.configuration.specs.Replacement.{changesOf};
+ghost use Rattle.configuration.specs.Configuration.{addAll, isPolynomial};
+ghost use Rattle.configuration.specs.Memory.{imageOf};
+ghost use Rattle.configuration.specs.Index.{indexedOf, Kept};
 ghost use Rattle.calculus.specs.Calculus.{conclusions, changes, allShort};
 ghost use Rattle.calculus.specs.declared.Rule.the-variants.{Sum, Prod};
 
-// The changes that a rule makes; where one of its results has more than 64 terms, that they do not fit.
+// The head of the table that has the changes of a rule; where one of its results has more than 64 terms, that they do not fit.
 pub struct Plan {
     pub fits: bool,
-    pub changes: [Change; 4],
+    pub head: Head,
 }
 
-// No changes.
-const NOTHING: Change = Change {
-    polynomial: Polynomial::ZERO,
-    amount: 0,
-};
+// A plan that does not fit: the table stays empty.
+fn unfit(variables: u32) -> Plan
+    ensures { λ r. ⌜ r ≡ record { fits = false; head = record { variables = variables; lines = 0 } } ⌝ }
+{
+    Plan {
+        fits: false,
+        head: Head {
+            variables,
+            lines: 0,
+        },
+    }
+}
 
 // SUM: f and g lose the amount each, f + g gains it, f g gains it twice.
-pub fn plan_sum(f: Polynomial, g: Polynomial, amount: i64) -> Plan
-    requires { ⌜ T (inRange amount) ⌝ }
-    ensures short { λ r. ⌜ r .fits ≡ allShort (conclusions Sum (termsOf f) (termsOf g) amount) ⌝ }
-    ensures made { λ r. ⌜ (r .fits ≡ true → changesOf (r .changes) ≡ changes Sum (termsOf f) (termsOf g) amount) ⌝ }
+fn plan_sum(
+    variables: u32,
+    f: &[u32],
+    g: &[u32],
+    amount: i64,
+    index: &mut [u64],
+    terms: &mut [u32],
+    weights: &mut [i64],
+    counts: &mut [u32],
+) -> Plan
+    requires { ⌜ (variables ≤ 32) × T (inRange amount) × T (isPolynomial variables (now f)) × T (isPolynomial variables (now g))
+        × (now index ≡ 0 ∷ 1 ∷ 2 ∷ 3 ∷ []) × (now terms ≡ replicate 256 0) × (now weights ≡ replicate 4 (pos 0)) × (now counts ≡ replicate 4 0) ⌝ }
+    ensures short { λ r. ⌜ r .fits ≡ allShort (conclusions Sum (now (f .entry)) (now (g .entry)) amount) ⌝ }
+    ensures made { λ r. ⌜ (r .fits ≡ true → indexedOf (r .head) (now (index .exit)) (now (terms .exit)) (now (weights .exit)) (now (counts .exit)) ≡ imageOf 4 variables (addAll (changes Sum (now (f .entry)) (now (g .entry)) amount) [])) ⌝ }
+    ensures kept { λ r. ⌜ Kept 4 (r .head) (now (index .exit)) (now (terms .exit)) (now (weights .exit)) (now (counts .exit)) ⌝ }
 {
-    let sum = Polynomial::sum(f, g);
-    let product = Polynomial::product(f, g);
+    let sum = sum_of(f, g);
+    let product = product_of(f, g);
     if 64 < sum.length {
-        return Plan {
-            fits: false,
-            changes: [NOTHING; 4],
-        };
+        return unfit(variables);
     }
     if 64 < product.length {
-        return Plan {
-            fits: false,
-            changes: [NOTHING; 4],
-        };
+        return unfit(variables);
     }
-    let s = sum.polynomial;
-    let p = product.polynomial;
-    let lost = -amount;
+    let none = Head {
+        variables,
+        lines: 0,
+    };
+    let one = fold_in(none, index, terms, weights, counts, f, -amount);
+    let two = fold_in(one, index, terms, weights, counts, g, -amount);
+    let s = front(&sum.polynomial.terms, sum.polynomial.count);
+    let three = fold_in(two, index, terms, weights, counts, s, amount);
+    let p = front(&product.polynomial.terms, product.polynomial.count);
     let twice = amount + amount;
-    Plan {
-        fits: true,
-        changes: [
-            Change {
-                polynomial: f,
-                amount: lost,
-            },
-            Change {
-                polynomial: g,
-                amount: lost,
-            },
-            Change {
-                polynomial: s,
-                amount,
-            },
-            Change {
-                polynomial: p,
-                amount: twice,
-            },
-        ],
-    }
+    let head = fold_in(three, index, terms, weights, counts, p, twice);
+    Plan { fits: true, head }
 }
 
 // PROD: f loses the amount, f g gains it, f (g + 1) gains it. The last is f g + f, since g + 1 may have 65 terms.
-pub fn plan_prod(f: Polynomial, g: Polynomial, amount: i64) -> Plan
-    requires { ⌜ T (inRange amount) × Below 32 (termsOf f) × Below 32 (termsOf g) ⌝ }
-    ensures short { λ r. ⌜ r .fits ≡ allShort (conclusions Prod (termsOf f) (termsOf g) amount) ⌝ }
-    ensures made { λ r. ⌜ (r .fits ≡ true → changesOf (r .changes) ≡ changes Prod (termsOf f) (termsOf g) amount ++ (line [] (pos 0) ∷ [])) ⌝ }
+fn plan_prod(
+    variables: u32,
+    f: &[u32],
+    g: &[u32],
+    amount: i64,
+    index: &mut [u64],
+    terms: &mut [u32],
+    weights: &mut [i64],
+    counts: &mut [u32],
+) -> Plan
+    requires { ⌜ (variables ≤ 32) × T (inRange amount) × T (isPolynomial variables (now f)) × T (isPolynomial variables (now g))
+        × (now index ≡ 0 ∷ 1 ∷ 2 ∷ 3 ∷ []) × (now terms ≡ replicate 256 0) × (now weights ≡ replicate 4 (pos 0)) × (now counts ≡ replicate 4 0) ⌝ }
+    ensures short { λ r. ⌜ r .fits ≡ allShort (conclusions Prod (now (f .entry)) (now (g .entry)) amount) ⌝ }
+    ensures made { λ r. ⌜ (r .fits ≡ true → indexedOf (r .head) (now (index .exit)) (now (terms .exit)) (now (weights .exit)) (now (counts .exit)) ≡ imageOf 4 variables (addAll (changes Prod (now (f .entry)) (now (g .entry)) amount) [])) ⌝ }
+    ensures kept { λ r. ⌜ Kept 4 (r .head) (now (index .exit)) (now (terms .exit)) (now (weights .exit)) (now (counts .exit)) ⌝ }
 {
-    let product = Polynomial::product(f, g);
+    let product = product_of(f, g);
     if 64 < product.length {
-        return Plan {
-            fits: false,
-            changes: [NOTHING; 4],
-        };
+        return unfit(variables);
     }
-    let p = product.polynomial;
-    let rest = Polynomial::sum(p, f);
+    let p = front(&product.polynomial.terms, product.polynomial.count);
+    let rest = sum_of(p, f);
     if 64 < rest.length {
-        return Plan {
-            fits: false,
-            changes: [NOTHING; 4],
-        };
+        return unfit(variables);
     }
-    let q = rest.polynomial;
-    let lost = -amount;
-    Plan {
-        fits: true,
-        changes: [
-            Change {
-                polynomial: f,
-                amount: lost,
-            },
-            Change {
-                polynomial: p,
-                amount,
-            },
-            Change {
-                polynomial: q,
-                amount,
-            },
-            NOTHING,
-        ],
+    let none = Head {
+        variables,
+        lines: 0,
+    };
+    let one = fold_in(none, index, terms, weights, counts, f, -amount);
+    let two = fold_in(one, index, terms, weights, counts, p, amount);
+    let q = front(&rest.polynomial.terms, rest.polynomial.count);
+    let head = fold_in(two, index, terms, weights, counts, q, amount);
+    Plan { fits: true, head }
+}
+
+// The plan of a rule.
+pub fn plan_of(
+    rule: Rule,
+    variables: u32,
+    f: &[u32],
+    g: &[u32],
+    amount: i64,
+    index: &mut [u64],
+    terms: &mut [u32],
+    weights: &mut [i64],
+    counts: &mut [u32],
+) -> Plan
+    requires { ⌜ (variables ≤ 32) × T (inRange amount) × T (isPolynomial variables (now f)) × T (isPolynomial variables (now g))
+        × (now index ≡ 0 ∷ 1 ∷ 2 ∷ 3 ∷ []) × (now terms ≡ replicate 256 0) × (now weights ≡ replicate 4 (pos 0)) × (now counts ≡ replicate 4 0) ⌝ }
+    ensures short { λ r. ⌜ r .fits ≡ allShort (conclusions rule (now (f .entry)) (now (g .entry)) amount) ⌝ }
+    ensures made { λ r. ⌜ (r .fits ≡ true → indexedOf (r .head) (now (index .exit)) (now (terms .exit)) (now (weights .exit)) (now (counts .exit)) ≡ imageOf 4 variables (addAll (changes rule (now (f .entry)) (now (g .entry)) amount) [])) ⌝ }
+    ensures kept { λ r. ⌜ Kept 4 (r .head) (now (index .exit)) (now (terms .exit)) (now (weights .exit)) (now (counts .exit)) ⌝ }
+{
+    match rule {
+        Rule::Sum => plan_sum(variables, f, g, amount, index, terms, weights, counts),
+        Rule::Prod => plan_prod(variables, f, g, amount, index, terms, weights, counts),
     }
 }

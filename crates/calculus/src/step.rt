@@ -5,19 +5,18 @@ use crate::Objection;
 use crate::Rule;
 use crate::Stepped;
 use crate::amount_fits;
-use crate::plan::plan_prod;
-use crate::plan::plan_sum;
+use crate::plan::plan_of;
 use configuration::Head;
+use configuration::Replaced;
 use configuration::Verdict;
 use configuration::form::is_below;
 use configuration::form::none_negative;
 use configuration::form::well_formed;
+use configuration::index::in_turn;
+use configuration::index::settle;
 use configuration::replace::replace;
 use configuration::table::weight_of;
 use polynomial::Ordering;
-use polynomial::Polynomial;
-use polynomial::held;
-use polynomial::load;
 use polynomial::order::compare;
 use polynomial::order::in_order;
 use refusal::Reason;
@@ -28,34 +27,36 @@ ghost use Rattle.run.specs.Run.{sorted};
 ghost use Rattle.term.specs.Term.{before};
 ghost use lib.ListN.{length};
 ghost use lib.Signed.{leZ};
-ghost use Rattle.polynomial.specs.Polynomial.{termsOf};
 ghost use Rattle.configuration.specs.Weight.{inRange};
-ghost use Rattle.configuration.specs.Configuration.{some, weight, below, isPolynomial, anyNegative};
-ghost use Rattle.configuration.specs.Memory.{memoryOf, linesIn, formed, wellFormed};
-ghost use Rattle.configuration.specs.Replacement.{Step, unless};
-ghost use Rattle.calculus.specs.Calculus.{premises, isPlain, amountFits, there, step as stepOf, leaves, leftOf, objected, directStep};
+ghost use Rattle.configuration.specs.Configuration.{some, weight, addAll, below, isPolynomial, anyNegative};
+ghost use Rattle.configuration.specs.Memory.{memoryOf, formed, wellFormed};
+ghost use Rattle.configuration.specs.Index.{indexedOf, linesBy, Kept};
+ghost use Rattle.configuration.specs.Replacement.{Step, unless, within};
+ghost use Rattle.calculus.specs.Calculus.{premises, conclusions, changes, isPlain, amountFits, there, allShort, step as stepOf, toldOf, toldBy, leaves, leftOf, objected, directStep};
 
 // Whether as much as is asked of a polynomial is held. The polynomial 0 is never asked for.
 fn is_held(
     head: Head,
+    index: &[u64],
     terms: &[u32],
     weights: &[i64],
     counts: &[u32],
     f: &[u32],
     asked: i64,
 ) -> bool
-    requires { ⌜ T (formed (length (now counts)) (memoryOf head (now terms) (now weights) (now counts))) ⌝ }
-    ensures { λ r. ⌜ r ≡ cond (some (now (f .entry))) (leZ asked (weight (linesIn head (now (terms .entry)) (now (weights .entry)) (now (counts .entry))) (now (f .entry)))) true ⌝ }
+    requires { ⌜ Kept (length (now counts)) head (now index) (now terms) (now weights) (now counts) × T (formed (length (now counts)) (indexedOf head (now index) (now terms) (now weights) (now counts))) ⌝ }
+    ensures { λ r. ⌜ r ≡ cond (some (now (f .entry))) (leZ asked (weight (linesBy head (now (index .entry)) (now (terms .entry)) (now (weights .entry)) (now (counts .entry))) (now (f .entry)))) true ⌝ }
 {
     if f.len() == 0 {
         return true;
     }
-    asked <= weight_of(head, terms, weights, counts, f)
+    asked <= weight_of(head, index, terms, weights, counts, f)
 }
 
 // Whether the weight that a rule takes away is there. SUM of a polynomial with itself asks for twice the amount.
 fn is_there(
     head: Head,
+    index: &[u64],
     terms: &[u32],
     weights: &[i64],
     counts: &[u32],
@@ -64,23 +65,23 @@ fn is_there(
     g: &[u32],
     amount: i64,
 ) -> bool
-    requires { ⌜ T (formed (length (now counts)) (memoryOf head (now terms) (now weights) (now counts))) × T (inRange amount) ⌝ }
-    ensures { λ r. ⌜ r ≡ there (linesIn head (now (terms .entry)) (now (weights .entry)) (now (counts .entry))) (premises rule (now (f .entry)) (now (g .entry)) amount) ⌝ }
+    requires { ⌜ Kept (length (now counts)) head (now index) (now terms) (now weights) (now counts) × T (formed (length (now counts)) (indexedOf head (now index) (now terms) (now weights) (now counts))) × T (inRange amount) ⌝ }
+    ensures { λ r. ⌜ r ≡ there (linesBy head (now (index .entry)) (now (terms .entry)) (now (weights .entry)) (now (counts .entry))) (premises rule (now (f .entry)) (now (g .entry)) amount) ⌝ }
 {
     match rule {
-        Rule::Prod => is_held(head, terms, weights, counts, f, amount),
+        Rule::Prod => is_held(head, index, terms, weights, counts, f, amount),
         Rule::Sum => {
             let order = compare(f, g);
             match order {
                 Ordering::Same => {
                     let twice = amount + amount;
-                    is_held(head, terms, weights, counts, f, twice)
+                    is_held(head, index, terms, weights, counts, f, twice)
                 }
                 _ => {
-                    if !is_held(head, terms, weights, counts, f, amount) {
+                    if !is_held(head, index, terms, weights, counts, f, amount) {
                         return false;
                     }
-                    is_held(head, terms, weights, counts, g, amount)
+                    is_held(head, index, terms, weights, counts, g, amount)
                 }
             }
         }
@@ -90,6 +91,7 @@ fn is_there(
 // The mode's tests: a negative line, the amount's range, and the weight that is taken away, in that order.
 fn object(
     head: Head,
+    index: &[u64],
     terms: &[u32],
     weights: &[i64],
     counts: &[u32],
@@ -99,11 +101,11 @@ fn object(
     g: &[u32],
     amount: i64,
 ) -> Objection
-    requires { ⌜ T (formed (length (now counts)) (memoryOf head (now terms) (now weights) (now counts))) ⌝ }
-    ensures { λ r. ⌜ ((s : Step) → objected r s ≡ unless (not (isPlain mode && anyNegative (linesIn head (now (terms .entry)) (now (weights .entry)) (now (counts .entry))))) 12 (unless (amountFits mode amount) 8 (unless (not (isPlain mode) || there (linesIn head (now (terms .entry)) (now (weights .entry)) (now (counts .entry))) (premises rule (now (f .entry)) (now (g .entry)) amount)) 9 s))) ⌝ }
+    requires { ⌜ Kept (length (now counts)) head (now index) (now terms) (now weights) (now counts) × T (formed (length (now counts)) (indexedOf head (now index) (now terms) (now weights) (now counts))) ⌝ }
+    ensures { λ r. ⌜ ((s : Step) → objected r s ≡ unless (not (isPlain mode && anyNegative (linesBy head (now (index .entry)) (now (terms .entry)) (now (weights .entry)) (now (counts .entry))))) 12 (unless (amountFits mode amount) 8 (unless (not (isPlain mode) || there (linesBy head (now (index .entry)) (now (terms .entry)) (now (weights .entry)) (now (counts .entry))) (premises rule (now (f .entry)) (now (g .entry)) amount)) 9 s))) ⌝ }
 {
     if let Mode::Plain = mode {
-        if !none_negative(head.lines as usize, weights) {
+        if !none_negative(weights) {
             return Objection::Found(Reason::NegativeLine);
         }
     }
@@ -111,7 +113,7 @@ fn object(
         return Objection::Found(Reason::OutOfRange);
     }
     if let Mode::Plain = mode {
-        if !is_there(head, terms, weights, counts, rule, f, g, amount) {
+        if !is_there(head, index, terms, weights, counts, rule, f, g, amount) {
             return Objection::Found(Reason::WeightMissing);
         }
     }
@@ -153,49 +155,10 @@ fn refused(head: Head, reason: Reason) -> Stepped
     }
 }
 
-// Takes a step in a configuration that is known to be well formed, with polynomials of its variables. It is for this
-// crate and for the check of derivations, which have tested both.
-pub fn step(
-    head: Head,
-    terms: &mut [u32],
-    weights: &mut [i64],
-    counts: &mut [u32],
-    rule: Rule,
-    mode: Mode,
-    f: Polynomial,
-    g: Polynomial,
-    amount: i64,
-) -> Stepped
-    requires { ⌜ T (wellFormed (memoryOf head (now terms) (now weights) (now counts))) × T (isPolynomial (head .variables) (termsOf f)) × T (isPolynomial (head .variables) (termsOf g)) ⌝ }
-    ensures { λ r. ⌜ leftOf (memoryOf (r .head) (now (terms .exit)) (now (weights .exit)) (now (counts .exit))) (r .answer) ≡ leaves (memoryOf head (now (terms .entry)) (now (weights .entry)) (now (counts .entry))) (stepOf rule mode (termsOf f) (termsOf g) amount (linesIn head (now (terms .entry)) (now (weights .entry)) (now (counts .entry)))) ⌝ }
+// The answer for a replacement.
+fn answered(done: Replaced) -> Stepped
+    ensures { λ r. ⌜ (r .head ≡ done .head) × (toldOf (r .answer) ≡ toldBy (done .verdict)) ⌝ }
 {
-    let a = f.terms;
-    let b = g.terms;
-    let m = held(f);
-    let n = held(g);
-    let objection = object(
-        head,
-        terms,
-        weights,
-        counts,
-        rule,
-        mode,
-        &a[..m],
-        &b[..n],
-        amount,
-    );
-    if let Objection::Found(reason) = objection {
-        return refused(head, reason);
-    }
-    let plan = match rule {
-        Rule::Sum => plan_sum(f, g, amount),
-        Rule::Prod => plan_prod(f, g, amount),
-    };
-    if !plan.fits {
-        return refused(head, Reason::TooManyTerms);
-    }
-    let changes = plan.changes;
-    let done = replace(head, terms, weights, counts, changes);
     let left = done.head;
     let verdict = done.verdict;
     match verdict {
@@ -206,6 +169,91 @@ pub fn step(
         Verdict::TooManyLines => refused(left, Reason::TooManyLines),
         Verdict::WeightTooLarge => refused(left, Reason::WeightTooLarge),
     }
+}
+
+// Makes the changes of a rule, if they fit. It is for `step`, which has made the mode's tests.
+fn change(
+    head: Head,
+    index: &mut [u64],
+    terms: &mut [u32],
+    weights: &mut [i64],
+    counts: &mut [u32],
+    rule: Rule,
+    f: &[u32],
+    g: &[u32],
+    amount: i64,
+) -> Stepped
+    requires { ⌜ Kept 128 head (now index) (now terms) (now weights) (now counts) × T (wellFormed (indexedOf head (now index) (now terms) (now weights) (now counts))) × T (isPolynomial (head .variables) (now f)) × T (isPolynomial (head .variables) (now g)) × T (inRange amount) ⌝ }
+    ensures left { λ r. ⌜ leftOf (indexedOf (r .head) (now (index .exit)) (now (terms .exit)) (now (weights .exit)) (now (counts .exit))) (r .answer) ≡ leaves (indexedOf head (now (index .entry)) (now (terms .entry)) (now (weights .entry)) (now (counts .entry))) (unless (allShort (conclusions rule (now (f .entry)) (now (g .entry)) amount)) 7 (within (addAll (changes rule (now (f .entry)) (now (g .entry)) amount) (linesBy head (now (index .entry)) (now (terms .entry)) (now (weights .entry)) (now (counts .entry)))))) ⌝ }
+    ensures kept { λ r. ⌜ Kept 128 (r .head) (now (index .exit)) (now (terms .exit)) (now (weights .exit)) (now (counts .exit)) ⌝ }
+{
+    let mut new_index = [0u64, 1, 2, 3];
+    let mut new_terms = [0u32; 256];
+    let mut new_weights = [0i64; 4];
+    let mut new_counts = [0u32; 4];
+    let plan = plan_of(
+        rule,
+        head.variables,
+        f,
+        g,
+        amount,
+        &mut new_index,
+        &mut new_terms,
+        &mut new_weights,
+        &mut new_counts,
+    );
+    if !plan.fits {
+        return refused(head, Reason::TooManyTerms);
+    }
+    let done = replace(
+        head,
+        index,
+        terms,
+        weights,
+        counts,
+        plan.head,
+        &new_index,
+        &new_terms,
+        &new_weights,
+        &new_counts,
+    );
+    answered(done)
+}
+
+// Takes a step in a configuration that is known to be well formed, with polynomials of its variables. It is for this
+// crate and for the check of derivations, which have tested both.
+pub fn step(
+    head: Head,
+    index: &mut [u64],
+    terms: &mut [u32],
+    weights: &mut [i64],
+    counts: &mut [u32],
+    rule: Rule,
+    mode: Mode,
+    f: &[u32],
+    g: &[u32],
+    amount: i64,
+) -> Stepped
+    requires { ⌜ Kept 128 head (now index) (now terms) (now weights) (now counts) × T (wellFormed (indexedOf head (now index) (now terms) (now weights) (now counts))) × T (isPolynomial (head .variables) (now f)) × T (isPolynomial (head .variables) (now g)) ⌝ }
+    ensures left { λ r. ⌜ leftOf (indexedOf (r .head) (now (index .exit)) (now (terms .exit)) (now (weights .exit)) (now (counts .exit))) (r .answer) ≡ leaves (indexedOf head (now (index .entry)) (now (terms .entry)) (now (weights .entry)) (now (counts .entry))) (stepOf rule mode (now (f .entry)) (now (g .entry)) amount (linesBy head (now (index .entry)) (now (terms .entry)) (now (weights .entry)) (now (counts .entry)))) ⌝ }
+    ensures kept { λ r. ⌜ Kept 128 (r .head) (now (index .exit)) (now (terms .exit)) (now (weights .exit)) (now (counts .exit)) ⌝ }
+{
+    let objection = object(
+        head,
+        index,
+        terms,
+        weights,
+        counts,
+        rule,
+        mode,
+        f,
+        g,
+        amount,
+    );
+    if let Objection::Found(reason) = objection {
+        return refused(head, reason);
+    }
+    change(head, index, terms, weights, counts, rule, f, g, amount)
 }
 
 // Takes one step directly, in lent areas of any lengths and contents, with operands of any length and content.
@@ -238,15 +286,19 @@ pub fn take_step(
     if let Objection::Found(reason) = objection {
         return refused(head, reason);
     }
-    step(
+    let mut index = in_turn(terms);
+    let stepped = step(
         head,
+        &mut index,
         terms,
         weights,
         counts,
         rule,
         mode,
-        load(f),
-        load(g),
+        f,
+        g,
         amount,
-    )
+    );
+    settle(index, terms, weights, counts);
+    stepped
 }

@@ -5,6 +5,7 @@ use mathlib.Core.List.{List, [], _∷_, _++_, append-assoc}
 use Prim.Native.Nat.{ℕ, zero, suc, _+_, _-_, _^_, _≤_, _<_}
 use native.Mathlib.Numerals.{add-one}
 use native.Mathlib.Omega.{arith}
+use lib.Dec.{eqb}
 use lib.IntN.{ℤ, pos, negsuc}
 use lib.ListN.{length, getD, take, drop, set, length-append, drop-of-length-le, take-append-drop, List·getD-append}
 use lib.Seq.{slice, slice-cons, slice-empty, length-slice, paste, paste-zero, paste-suc, length-paste-head, drop-cons, take-suc, take-all, append-snoc, length-take-le, set-at, getD-take, getD-drop, getD-append-add}
@@ -12,6 +13,7 @@ use lib.Signed.{mag}
 use mir.Syntax.{w64}
 use mir.Val.{toZ, ofZ}
 use mir.Facts.{toZ-ofZ}
+use borrow.Author.Tests.{ne-eqb}
 use Rattle.configuration.specs.Weight.{isZero}
 
 -- ---- a test of every element, from the first on
@@ -31,6 +33,29 @@ module _ {A : Type 0} (test : A → Bool) (every : List A → Bool)
   -- none is left
   pub ends : length l ≤ i → every (drop i l) ≡ every l → true ≡ every l
   ends h inv = sym none ∙ ap every (sym (drop-of-length-le l h)) ∙ inv
+
+  -- those that fail it are counted, k so far: every element passes just if none has been counted and those that are left pass
+  module _ (k : ℕ) (inv : (eqb k 0 && every (drop i l)) ≡ every l) where
+    pub one-fails : (n : ℕ) → n ≡ k + 1 → i < length l → test (getD l i z) ≡ false → (eqb n 0 && every (drop (i + 1) l)) ≡ every l
+    one-fails n q h e = rw (ne-eqb n 0 (λ x. omega arith)) (go (eqb k 0) inv)
+      where
+        go : (b : Bool) → (b && every (drop i l)) ≡ every l → false ≡ every l
+        go true r = stops h e r
+        go false r = r
+
+    pub one-passes : (n : ℕ) → n ≡ k → i < length l → test (getD l i z) ≡ true → (eqb n 0 && every (drop (i + 1) l)) ≡ every l
+    one-passes n q h e = rw q (go (eqb k 0) inv)
+      where
+        go : (b : Bool) → (b && every (drop i l)) ≡ every l → (b && every (drop (i + 1) l)) ≡ every l
+        go true r = goes-on h e r
+        go false r = r
+
+    pub all-counted : length l ≤ i → eqb k 0 ≡ every l
+    all-counted h = go (eqb k 0) inv
+      where
+        go : (b : Bool) → (b && every (drop i l)) ≡ every l → b ≡ every l
+        go true r = ends h r
+        go false r = r
 
 -- the same for the first n elements of a list
 module _ {A : Type 0} (test : A → Bool) (every : List A → Bool)
@@ -60,7 +85,7 @@ module _ {A : Type 0} where
       inv ∙ ap₂ (λ (x : List A) (k : ℕ). take at d ++ x ++ drop k d) (take-all j s h) (sym en) ∙ append-assoc (take at d) s (drop n d)
 
   -- what lies behind the run is as it was
-  behind : (d s m : List A) (at j i : ℕ) (z : A) → at ≤ length d → j ≤ length s → at + j ≤ i → m ≡ paste d at s j → getD m i z ≡ getD d i z
+  pub behind : (d s m : List A) (at j i : ℕ) (z : A) → at ≤ length d → j ≤ length s → at + j ≤ i → m ≡ paste d at s j → getD m i z ≡ getD d i z
   behind d s m at j i z hd hs h inv =
       let p = take at d ++ take j s in
       let e : i ≡ length p + (i - (at + j)) = omega (arith, length-paste-head d at s j hd hs) in
@@ -68,68 +93,64 @@ module _ {A : Type 0} where
       ap₂ (λ (x : List A) (k : ℕ). getD x k z) inv e ∙ getD-append-add p (drop (at + j) d) (i - (at + j)) z
       ∙ getD-drop (at + j) d (i - (at + j)) z ∙ ap (λ (k : ℕ). getD d k z) r
 
-  -- ---- the elements from start to end move down, the first first: those before i have moved
-  abbrev pub lowered : List A → ℕ → ℕ → ℕ → ℕ → List A
-  lowered l start end by i = paste l (start - by) (slice start end l) (i - start)
+  -- ---- the elements behind a place, up to the end, move down by one, the first first: those before i have moved
+  abbrev pub lowered : List A → ℕ → ℕ → ℕ → List A
+  lowered l at end i = paste l at (slice (at + 1) end l) (i - (at + 1))
 
-  pub down-more : (l m : List A) (start end by i : ℕ) (z : A) → by ≤ start → start ≤ i → i < end → end ≤ length l
-      → m ≡ lowered l start end by i → set m (i - by) (getD m i z) ≡ lowered l start end by (i + 1)
-  down-more l m start end by i z a b h f inv =
-      let s = slice start end l in
-      let n : length s ≡ end - start = length-slice start end l f in
-      let e : start + (i - start) ≡ i = omega arith in
-      let u : getD m i z ≡ getD l i z = behind l s m (start - by) (i - start) i z (omega arith) (omega arith) (omega arith) inv in
-      let v : getD s (i - start) z ≡ getD l i z = getD-drop start (take end l) (i - start) z ∙ rw e (getD-take end l i z h) in
-      more-pasted l s m (start - by) (i - start) (i - by) (i + 1 - start) (getD m i z) z (omega arith) (omega arith) (omega arith) (omega arith) (u ∙ sym v) inv
+  pub down-none : (l : List A) (at end : ℕ) → l ≡ lowered l at end (at + 1)
+  down-none l at end = none-pasted l (slice (at + 1) end l) at (at + 1 - (at + 1)) (omega arith)
 
-  pub down-all : (l m : List A) (start end by i to : ℕ) → by ≤ start → start ≤ end → i ≡ end → end ≤ length l → to ≡ start - by
-      → m ≡ lowered l start end by i → m ≡ take to l ++ (slice start end l ++ drop (end - by) l)
-  down-all l m start end by i to a b e f p inv =
-      let s = slice start end l in
-      let n : length s ≡ end - start = length-slice start end l f in
-      rw p (all-pasted l s m (start - by) (i - start) (end - by) (omega arith) (omega arith) inv)
+  module _ (l m : List A) (at end i : ℕ) (a : at < i) (f : end ≤ length l) (inv : m ≡ lowered l at end i) where
+    moved : length (slice (at + 1) end l) ≡ end - (at + 1)
+    moved = length-slice (at + 1) end l f
 
-  -- the element behind those that have moved is set
-  pub shut : (l s m : List A) (at k n : ℕ) (v : A) → at ≤ length l → k ≡ at + length s → k < length l → n ≡ suc k
-      → m ≡ take at l ++ (s ++ drop k l) → set m k v ≡ take at l ++ (s ++ (v ∷ drop n l))
-  shut l s m at k n v b ek h en inv =
-      let p = take at l ++ s in
-      let e : length p ≡ k = simp length-append (omega (arith, length-take-le at l b)) in
-      let r : m ≡ p ++ drop k l = inv ∙ sym (append-assoc (take at l) s (drop k l)) in
-      ap (λ (x : List A). set x k v) (r ∙ ap (λ (x : List A). p ++ x) (drop-cons l k v h)) ∙ set-at p (getD l k v) (drop (suc k) l) v k e
-      ∙ append-assoc (take at l) s (v ∷ drop (suc k) l)
-      ∙ ap (λ (x : ℕ). take at l ++ (s ++ (v ∷ drop x l))) (sym en)
+    pub down-more : (z : A) → i < end → set m (i - 1) (getD m i z) ≡ lowered l at end (i + 1)
+    down-more z h =
+        let s = slice (at + 1) end l in
+        let e : at + 1 + (i - (at + 1)) ≡ i = omega arith in
+        let u : getD m i z ≡ getD l i z = behind l s m at (i - (at + 1)) i z (omega arith) (omega (arith, moved)) (omega arith) inv in
+        let v : getD s (i - (at + 1)) z ≡ getD l i z = getD-drop (at + 1) (take end l) (i - (at + 1)) z ∙ rw e (getD-take end l i z h) in
+        more-pasted l s m at (i - (at + 1)) (i - 1) (i + 1 - (at + 1)) (getD m i z) z (omega arith) (omega (arith, moved)) (omega arith) (omega arith) (u ∙ sym v) inv
 
-  -- ---- the elements from start to end move up, the last first: those from i on have moved
-  abbrev pub raised : List A → ℕ → ℕ → ℕ → List A
-  raised l i end by = take (i + by) l ++ (slice i end l ++ drop (end + by) l)
+    -- all have, and the last place is set
+    pub down-all : (v : A) → i ≡ end → set m (end - 1) v ≡ take at l ++ (slice (at + 1) end l ++ (v ∷ drop end l))
+    down-all v e =
+        let s = slice (at + 1) end l in
+        let k : ℕ = end - 1 in
+        let p = take at l ++ s in
+        let n : length p ≡ k = simp length-append (omega (arith, moved, length-take-le at l (omega arith))) in
+        let r : m ≡ p ++ drop k l = all-pasted l s m at (i - (at + 1)) k (omega (arith, moved)) (omega arith) inv ∙ sym (append-assoc (take at l) s (drop k l)) in
+        let d : suc k ≡ end = omega arith in
+        ap (λ (x : List A). set x k v) (r ∙ ap (λ (x : List A). p ++ x) (drop-cons l k v (omega arith))) ∙ set-at p (getD l k v) (drop (suc k) l) v k n
+        ∙ append-assoc (take at l) s (v ∷ drop (suc k) l)
+        ∙ ap (λ (x : ℕ). take at l ++ (s ++ (v ∷ drop x l))) d
 
-  pub up-none : (l : List A) (end by : ℕ) → l ≡ raised l end end by
-  up-none l end by = rw slice-empty (sym (take-append-drop (end + by) l))
+  -- ---- the elements from a place to the end move up by one, the last first: those from i on have moved
+  abbrev pub raised : List A → ℕ → ℕ → List A
+  raised l i end = take (i + 1) l ++ (slice i end l ++ drop (end + 1) l)
 
-  -- the element before those that have moved is set
-  pub open-at : (l r m : List A) (at n : ℕ) (v : A) → at < length l → n ≡ suc at → m ≡ take n l ++ r → set m at v ≡ take at l ++ (v ∷ r)
-  open-at l r m at n v h e inv =
-      let b : at ≤ length l = omega arith in
-      let s : take n l ≡ take at l ++ (getD l at v ∷ []) = rw e (take-suc l at v h) in
-      let t : m ≡ take at l ++ (getD l at v ∷ r) = inv ∙ ap (λ (x : List A). x ++ r) s ∙ append-snoc (take at l) (getD l at v) r in
-      ap (λ (x : List A). set x at v) t ∙ set-at (take at l) (getD l at v) r v at (length-take-le at l b)
+  pub up-none : (l : List A) (end : ℕ) → l ≡ raised l end end
+  up-none l end = rw slice-empty (sym (take-append-drop (end + 1) l))
 
-  pub up-more : (l m : List A) (i end by : ℕ) (z : A) → 1 ≤ i → i ≤ end → end + by ≤ length l
-      → m ≡ raised l i end by → set m (i - 1 + by) (getD m (i - 1) z) ≡ raised l (i - 1) end by
-  up-more l m i end by z a h f inv =
-      let r = slice i end l ++ drop (end + by) l in
-      let b : i + by ≤ length l = omega arith in
-      let c : i - 1 < length (take (i + by) l) = omega (arith, length-take-le (i + by) l b) in
-      let d : i - 1 < end = omega arith in
-      let g : end ≤ length l = omega arith in
-      let e : suc (i - 1) ≡ i = omega arith in
-      let t : getD (take (i + by) l) (i - 1) z ≡ getD l (i - 1) z = getD-take (i + by) l (i - 1) z (omega arith) in
-      let v : getD m (i - 1) z ≡ getD l (i - 1) z = rw inv (List·getD-append (take (i + by) l) r z (i - 1) c ∙ t) in
-      let u : slice (i - 1) end l ≡ getD l (i - 1) z ∷ slice (suc (i - 1)) end l = slice-cons (i - 1) end l z d g in
-      let s : slice (i - 1) end l ≡ getD m (i - 1) z ∷ slice i end l = u ∙ ap₂ (λ (x : A) (k : ℕ). x ∷ slice k end l) (sym v) e in
-      open-at l r m (i - 1 + by) (i + by) (getD m (i - 1) z) (omega arith) (omega arith) inv
-      ∙ ap (λ (x : List A). take (i - 1 + by) l ++ (x ++ drop (end + by) l)) (sym s)
+  module _ (l m : List A) (i end : ℕ) (h : i ≤ end) (f : end < length l) (inv : m ≡ raised l i end) where
+    -- the place before those that have moved is set
+    pub up-all : (v : A) → set m i v ≡ take i l ++ (v ∷ (slice i end l ++ drop (end + 1) l))
+    up-all v =
+        let r = slice i end l ++ drop (end + 1) l in
+        let s : take (i + 1) l ≡ take i l ++ (getD l i v ∷ []) = rw add-one (take-suc l i v (omega arith)) in
+        let t : m ≡ take i l ++ (getD l i v ∷ r) = inv ∙ ap (λ (x : List A). x ++ r) s ∙ append-snoc (take i l) (getD l i v) r in
+        ap (λ (x : List A). set x i v) t ∙ set-at (take i l) (getD l i v) r v i (length-take-le i l (omega arith))
+
+    pub up-more : (z : A) → 1 ≤ i → set m (i - 1 + 1) (getD m (i - 1) z) ≡ raised l (i - 1) end
+    up-more z a =
+        let r = slice i end l ++ drop (end + 1) l in
+        let e : i - 1 + 1 ≡ i = omega arith in
+        let d : suc (i - 1) ≡ i = omega arith in
+        let c : i - 1 < length (take (i + 1) l) = omega (arith, length-take-le (i + 1) l (omega arith)) in
+        let v : getD m (i - 1) z ≡ getD l (i - 1) z = rw inv (List·getD-append (take (i + 1) l) r z (i - 1) c ∙ getD-take (i + 1) l (i - 1) z (omega arith)) in
+        let s : slice (i - 1) end l ≡ getD m (i - 1) z ∷ slice i end l =
+        slice-cons (i - 1) end l z (omega arith) (omega arith) ∙ ap₂ (λ (x : A) (k : ℕ). x ∷ slice k end l) (sym v) d in
+        rw (e, s) (up-all (getD m (i - 1) z))
 
 -- ---- a weight and its bits
 pub read-back : (w : ℤ) → mag w < 2 ^ 63 → toZ w64 (ofZ w64 w) ≡ w

@@ -10,25 +10,26 @@ use native.Mathlib.Omega.{arith}
 use lib.Dec.{T, eqb, leb, eqb→eq, leb→le}
 use lib.IntN.{ℤ, pos, _+ℤ_}
 use lib.Signed.{mag}
-use lib.ListN.{length, getD, set, take, drop, replicate, length-take, drop-of-length-le}
-use lib.Seq.{drop-cons, take-suc, take-suc-set, take-all, append-snoc}
+use lib.ListN.{length, getD, set, take, drop, length-take, drop-of-length-le}
+use lib.Seq.{drop-cons, take-suc-set, append-snoc}
 use mir.Syntax.{w64}
 use mir.Val.{SFits, toZ, ofZ}
 use denote.Enum.Declared.{tagOf}
 use types.Run.{OneOf}
 use borrow.Author.Tests.{lt-leb, le-leb}
-use Rattle.run.specs.Boolean.{bool-ext, is-true, of-true, left}
-use Rattle.polynomial.specs.Polynomial.{termsOf}
+use Rattle.run.specs.Boolean.{bool-ext, is-true, of-true}
 use Rattle.configuration.specs.Weight.{limit, isZero, allInRange}
-use Rattle.configuration.specs.Configuration.{Line, line, some, weight, add, addAll, Ordered, Every, isPolynomial, linesFit, weightsFit}
+use Rattle.configuration.specs.Configuration.{Line, line, some, weight, add, addAll, Ordered, Every, isPolynomial, linesFit}
 use Rattle.configuration.specs.Memory.{Memory, readLines, linesOf, rows, weightsOf, countsOf, imageOf, formed, wellFormed}
-use Rattle.configuration.specs.Replacement.{taken, unless, changesOf, Small, Replacement, after, replaced, replacementOf, weightsBefore, weightsAfter, countHeld, chosen, Room, verdictOf}
+use Rattle.configuration.specs.Index.{rowOf, arranged, indexedOf, linesBy, Once, Kept}
+use Rattle.configuration.specs.Replacement.{taken, unless, Small, Replacement, after, replaced, replacementOf, weightsBefore, weightsAfter, countHeld, chosen, Room, verdictOf}
 use Rattle.configuration.specs.Sums.{zero-is}
 use Rattle.configuration.specs.ConfigurationLaws.{add-ordered, add-every, fit-ordered, fit-every, fits, all-fit}
 use Rattle.configuration.specs.PlaceLaws.{toNat, grown}
 use Rattle.configuration.specs.MemoryLaws.{well-formed, weights-bound, Formed, formed-parts, formed-image, image-formed, there-and-back, fits-short, length-lines, line-at}
-use Rattle.configuration.specs.ReplacementLaws.{after-length, mag-add, netted-weight, netted-small, replace-is, chosen-every, two-passes, room-first, room-last, room-length, length-after}
-use Rattle.configuration.specs.declared.Change.{Change}
+use Rattle.configuration.specs.ReplacementLaws.{after-length, mag-add, netted-weight, netted-small, replace-is, replaced-netted, chosen-every, two-passes, room-first, room-last, room-length, length-after}
+use Rattle.configuration.specs.IndexLaws.{row-is, value-is}
+use Rattle.configuration.specs.declared.Head.{Head}
 use Rattle.configuration.specs.declared.Verdict.{Verdict}
 use Rattle.configuration.specs.declared.Verdict.the-variants.{Done, TooManyLines, WeightTooLarge}
 use Rattle.configuration.proofs.Verdict.{the-type}
@@ -80,11 +81,6 @@ ordered-some : (L : List Line) → Ordered L → Every (λ f. T (some f)) L
 ordered-some [] r = tt
 ordered-some (line f w ∷ L) r = (r .0, ordered-some L (r .1 .1 .1))
 
-small-take : (k i : ℕ) (L : List Line) → Small k L → Small k (take i L)
-small-take k zero L h = tt
-small-take k (suc i) [] h = tt
-small-take k (suc i) (line f w ∷ L) h = (h .0, small-take k i L (h .1))
-
 -- ---- line i of a table
 module _ (c : ℕ) (m : Memory) (t : T (formed c m)) where
   pub table-ordered : Ordered (linesOf m)
@@ -113,8 +109,45 @@ module _ (c : ℕ) (m : Memory) (t : T (formed c m)) where
     row-some = every-at (λ f. T (some f)) (rowAt (m .terms) (m .counts) i) (getD (m .weights) i (pos 0)) i (linesOf m)
         (ordered-some (linesOf m) table-ordered) in-lines line-here
 
+-- ---- line i of a table, read through its index, in the row r of the areas
+row-below : (c i : ℕ) (is : List ℕ) → Once c is → i < length is → rowOf (getD is i 0) < c
+row-below c i [] o h = absurd (not-suc-le-zero h)
+row-below c zero (e ∷ is) o h = o .0
+row-below c (suc i) (e ∷ is) o h = row-below c i is (o .1 .1) (le-of-suc-le-suc h)
+
+pub record Read (m : Memory) (i : ℕ) (ts : List ℕ) (ws : List ℤ) (cs : List ℕ) (r : ℕ) : Type 0 where
+  pub low : r < 128
+  pub in-weights : r < length ws
+  pub in-counts : r < length cs
+  pub in-terms : 64 * r + getD cs r 0 ≤ length ts
+  pub terms-are : rowAt ts cs r ≡ rowAt (m .terms) (m .counts) i
+  pub weight-is : getD ws r (pos 0) ≡ getD (m .weights) i (pos 0)
+
+module _ (c : ℕ) (h : Head) (is ts : List ℕ) (ws : List ℤ) (cs : List ℕ) (k : Kept c h is ts ws cs) (t : T (formed c (indexedOf h is ts ws cs)))
+    (i : ℕ) (q : i < h .lines) where
+  pub in-index : i < length is
+  in-index = omega (arith, k .entries, formed-parts c (indexedOf h is ts ws cs) t .room)
+
+  pub read : (r : ℕ) → r ≡ rowOf (getD is i 0) → Read (indexedOf h is ts ws cs) i ts ws cs r
+  read r e =
+      let b : r < c = omega (arith, row-below c i is (k .once) in-index) in
+      let n : getD cs r 0 ≡ getD (arranged 1 is cs) i 0 =
+      ap (λ (x : ℕ). getD cs x 0) e ∙ sym (value-is c is cs (k .once) (omega (arith, k .counts-length)) i in-index 0) in
+      let s : getD cs r 0 ≤ 64 =
+      omega (arith, laid-short (h .lines) i (arranged 64 is ts) (arranged 1 is ws) (arranged 1 is cs) (formed-parts c (indexedOf h is ts ws cs) t .laid) q) in
+      record {
+        low = omega (arith, k .capacity);
+        in-weights = omega (arith, k .weights-length);
+        in-counts = omega (arith, k .counts-length);
+        in-terms = omega (arith, k .terms-length);
+        terms-are = ap (λ (x : ℕ). take (getD cs r 0) (drop (64 * x) ts)) e
+            ∙ sym (row-is c 64 is ts (k .once) (omega (arith, k .terms-length)) i (getD cs r 0) in-index s)
+            ∙ ap (λ (n : ℕ). take n (drop (64 * i) (arranged 64 is ts))) n;
+        weight-is = ap (λ (x : ℕ). getD ws x (pos 0)) e ∙ sym (value-is c is ws (k .once) (omega (arith, k .weights-length)) i in-index (pos 0));
+      }
+
 -- ---- a polynomial folded into a table
-module _ (c n : ℕ) (m m′ : Memory) (f : List ℕ) (w : ℤ) (t : T (formed c m)) (q : T (isPolynomial (m .variables) f)) (l : length (add f w (linesOf m)) ≤ c)
+module _ (c : ℕ) (m m′ : Memory) (f : List ℕ) (w : ℤ) (t : T (formed c m)) (q : T (isPolynomial (m .variables) f)) (l : length (add f w (linesOf m)) ≤ c)
     (e : m′ ≡ imageOf c (m .variables) (add f w (linesOf m))) where
   added-fit : T (linesFit (m .variables) (add f w (linesOf m)))
   added-fit =
@@ -132,32 +165,27 @@ module _ (c n : ℕ) (m m′ : Memory) (f : List ℕ) (w : ℤ) (t : T (formed c
   added-variables = ap (λ (x : Memory). x .variables) e
 
 -- what folding in asks and gives, in a table of k places, which are c
-module _ (k c : ℕ) (e : k ≡ c) where
-  pub fold-asks : (m : Memory) (f : List ℕ) (w : ℤ) → c ≤ 128 → T (formed c m) → T (isPolynomial (m .variables) f) → mag (weight (linesOf m) f +ℤ w) < 2 ^ 63
-      → length (add f w (linesOf m)) ≤ c
-      → T (formed k m) × T (isPolynomial (m .variables) f) × (mag (weight (linesOf m) f +ℤ w) < 2 ^ 63) × (length (add f w (linesOf m)) ≤ k) × (k ≤ 128)
-  fold-asks m f w h t q s l = (subst (λ (n : ℕ). T (formed n m)) (sym e) t, q, s, omega arith, omega arith)
+module _ (k c : ℕ) (e : k ≡ c) (h : Head) (is ts : List ℕ) (ws : List ℤ) (cs : List ℕ) where
+  pub fold-asks : (f : List ℕ) (w : ℤ) → Kept c h is ts ws cs → T (formed c (indexedOf h is ts ws cs)) → T (isPolynomial (h .variables) f)
+      → mag (weight (linesBy h is ts ws cs) f +ℤ w) < 2 ^ 63 → length (add f w (linesBy h is ts ws cs)) ≤ c
+      → Kept k h is ts ws cs × T (formed k (indexedOf h is ts ws cs)) × T (isPolynomial (h .variables) f) × (mag (weight (linesBy h is ts ws cs) f +ℤ w) < 2 ^ 63)
+      × (length (add f w (linesBy h is ts ws cs)) ≤ k)
+  fold-asks f w o t q s l =
+      (subst (λ (n : ℕ). Kept n h is ts ws cs) (sym e) o, subst (λ (n : ℕ). T (formed n (indexedOf h is ts ws cs))) (sym e) t, q, s, omega arith)
 
-  pub fold-gives : (m : Memory) (n : ℕ) (L : List Line) → m ≡ imageOf k n L → m ≡ imageOf c n L
-  fold-gives m n L x = x ∙ ap (λ (j : ℕ). imageOf j n L) e
+  pub fold-gives : (n : ℕ) (L : List Line) → (indexedOf h is ts ws cs ≡ imageOf k n L) × Kept k h is ts ws cs
+      → (indexedOf h is ts ws cs ≡ imageOf c n L) × Kept c h is ts ws cs
+  fold-gives n L x = (x .0 ∙ ap (λ (j : ℕ). imageOf j n L) e, subst (λ (n : ℕ). Kept n h is ts ws cs) e (x .1))
 
--- ---- the changes, folded into an empty table of four: the first i are in
-pub change-at : (i : ℕ) (cs : List Change) (d : Change) → i < length cs
-    → getD (changesOf cs) i none ≡ line (termsOf ((getD cs i d) .polynomial)) ((getD cs i d) .amount)
-unfolding changesOf
-change-at i [] d h = absurd (not-suc-le-zero h)
-change-at zero (c ∷ cs) d h = refl
-change-at (suc i) (c ∷ cs) d h = change-at i cs d (le-of-suc-le-suc h)
-
-pub changes-length : (cs : List Change) → length (changesOf cs) ≡ length cs
-unfolding changesOf
-changes-length [] = refl
-changes-length (c ∷ cs) = ap suc (changes-length cs)
-
+-- ---- at most four changes, folded one by one into an empty table of four: those of C are in
 all-snoc : (C L : List Line) (f : List ℕ) (w : ℤ) → addAll (C ++ (line f w ∷ [])) L ≡ add f w (addAll C L)
 unfolding addAll
 all-snoc [] L f w = refl
 all-snoc (line g u ∷ C) L f w = all-snoc C (add g u L) f w
+
+small-snoc : (k : ℕ) (C : List Line) (f : List ℕ) (w : ℤ) → Small k C → mag w < 2 ^ k → Small k (C ++ (line f w ∷ []))
+small-snoc k [] f w s h = (h, tt)
+small-snoc k (line g u ∷ C) f w s h = (s .0, small-snoc k C f w (s .1) h)
 
 add-nothing : (w : ℤ) (L : List Line) → add [] w L ≡ L
 unfolding add
@@ -176,39 +204,42 @@ unfolding addAll
 all-short [] L r = omega arith
 all-short (line f w ∷ C) L r = omega (arith, all-short C (add f w L) (add-ordered f w L r), add-short f w L r)
 
-pub record Gathered (C : List Line) (n i : ℕ) (m : Memory) : Type 0 where
+pub record Gathered (C : List Line) (n : ℕ) (m : Memory) : Type 0 where
   pub is-formed : T (formed 4 m)
   pub variables-are : m .variables ≡ n
-  pub lines-are : linesOf m ≡ addAll (take i C) []
+  pub lines-are : linesOf m ≡ addAll C []
+  pub small : Small 42 C
 
-module _ (C : List Line) (n i : ℕ) (m : Memory) (f : List ℕ) (w : ℤ) (g : Gathered C n i m) (h : i < length C) (k : length C ≡ 4) (e : getD C i none ≡ line f w) where
-  next-all : add f w (linesOf m) ≡ addAll (take (suc i) C) []
-  next-all = rw (g .lines-are, take-suc C i none h, e) (sym (all-snoc (take i C) [] f w))
-
-  pub gather-room : length (add f w (linesOf m)) ≤ 4
-  gather-room = rw next-all (omega (arith, all-short (take (suc i) C) [] tt, length-take (suc i) C))
-
-  pub gather-fits : Small 42 C → mag (weight (linesOf m) f +ℤ w) < 2 ^ 63
-  gather-fits s =
-      let a : mag (weight (linesOf m) f) < 2 ^ 45 = rw (g .lines-are) (netted-weight (take i C) (omega (arith, length-take i C)) (small-take 42 i C s) f) in
-      omega (arith, mag-add (weight (linesOf m) f) w, small-at 42 f w i C s h e)
-
-  pub gather-more : (m′ : Memory) → T (isPolynomial n f) → m′ ≡ imageOf 4 (m .variables) (add f w (linesOf m)) → Gathered C n (i + 1) m′
-  gather-more m′ q x =
-      let p : T (isPolynomial (m .variables) f) = rw (g .variables-are) q in
-      record {
-        is-formed = added-formed 4 n m m′ f w (g .is-formed) p gather-room x;
-        variables-are = added-variables 4 n m m′ f w (g .is-formed) p gather-room x ∙ g .variables-are;
-        lines-are = rw add-one (added-lines 4 n m m′ f w (g .is-formed) p gather-room x ∙ next-all);
-      }
-
-pub gather-none : (C : List Line) (n : ℕ) (ts : List ℕ) (ws : List ℤ) (cs : List ℕ) → ts ≡ replicate 256 0 → ws ≡ replicate 4 (pos 0) → cs ≡ replicate 4 0
-    → Gathered C n 0 (record { variables = n; lines = 0; terms = ts; weights = ws; counts = cs })
+pub gather-none : (n : ℕ) (m : Memory) → m ≡ imageOf 4 n [] → Gathered [] n m
 unfolding linesFit addAll readLines rows weightsOf countsOf
-gather-none C n ts ws cs et ew ec = rw (et, ew, ec) (record { is-formed = image-formed 4 n [] (omega arith) tt; variables-are = refl; lines-are = refl })
+gather-none n m e = rw e (record { is-formed = image-formed 4 n [] (omega arith) tt; variables-are = refl; lines-are = refl; small = tt })
 
-pub gather-all : (C : List Line) (n i : ℕ) (m : Memory) → length C ≤ i → Gathered C n i m → m ≡ imageOf 4 n (addAll C [])
-gather-all C n i m h g = formed-image 4 m (g .is-formed) ∙ rw (g .variables-are, g .lines-are, take-all i C h)
+module _ (C : List Line) (n : ℕ) (m : Memory) (g : Gathered C n m) where
+  pub gather-small : length C ≤ 4 → Small 45 (linesOf m)
+  gather-small h = subst (Small 45) (sym (g .lines-are)) (netted-small C h (g .small))
+
+  -- replacing by the table replaces by the changes
+  pub gather-replaced : (old : Memory) → T (wellFormed old) → replaced (linesOf m) old ≡ replaced C old
+  gather-replaced old t = ap (λ (N : List Line). replaced N old) (g .lines-are) ∙ replaced-netted C old (table-ordered 128 old (well-formed old t))
+
+  module _ (f : List ℕ) (w : ℤ) (h : length C < 4) (k : mag w < 2 ^ 42) where
+    pub gather-room : length (add f w (linesOf m)) ≤ 4
+    gather-room = omega (arith, add-short f w (linesOf m) (table-ordered 4 m (g .is-formed)), ap length (g .lines-are), all-short C [] tt)
+
+    pub gather-fits : mag (weight (linesOf m) f +ℤ w) < 2 ^ 63
+    gather-fits =
+        let a : mag (weight (linesOf m) f) < 2 ^ 45 = rw (g .lines-are) (netted-weight C (omega arith) (g .small) f) in
+        omega (arith, mag-add (weight (linesOf m) f) w)
+
+    pub gather-more : (m′ : Memory) → T (isPolynomial n f) → m′ ≡ imageOf 4 (m .variables) (add f w (linesOf m)) → Gathered (C ++ (line f w ∷ [])) n m′
+    gather-more m′ q x =
+        let p : T (isPolynomial (m .variables) f) = rw (g .variables-are) q in
+        record {
+          is-formed = added-formed 4 m m′ f w (g .is-formed) p gather-room x;
+          variables-are = added-variables 4 m m′ f w (g .is-formed) p gather-room x ∙ g .variables-are;
+          lines-are = added-lines 4 m m′ f w (g .is-formed) p gather-room x ∙ ap (add f w) (g .lines-are) ∙ sym (all-snoc C [] f w);
+          small = small-snoc 42 C f w (g .small) k;
+        }
 
 -- ---- the weights before and after, one by one: W of the lines of N, G of one of them
 module _ (W : List Line → List ℤ) (G : List ℕ → ℤ → ℤ) (nil : W [] ≡ []) (more : (f : List ℕ) (w : ℤ) (N : List Line) → W (line f w ∷ N) ≡ G f w ∷ W N) (N : List Line)
@@ -239,14 +270,14 @@ pub folding-none : (b : Bool) (ss : List ℤ) (N : List Line) (m : Memory) → T
     → Folding b ss N (m .variables) (linesOf m) 0 m
 folding-none b ss N m t r = record { is-formed = t; variables-are = refl; has-room = r; rest-is = refl }
 
-pub folding-all : (b : Bool) (ss : List ℤ) (N : List Line) (n : ℕ) (L : List Line) (i : ℕ) (m : Memory) → length ss ≤ i → Folding b ss N n L i m
+pub folding-all : {b : Bool} {ss : List ℤ} {N : List Line} {n : ℕ} {L : List Line} {i : ℕ} (m : Memory) → length ss ≤ i → Folding b ss N n L i m
     → m ≡ imageOf 128 n (addAll (chosen b ss N) L)
 unfolding chosen addAll
-folding-all b ss N n L i m h g =
+folding-all {b = b} {ss = ss} {N = N} {L = L} m h g =
     let e : linesOf m ≡ addAll (chosen b ss N) L = rw (drop-of-length-le ss h) at (g .rest-is) in
     formed-image 128 m (g .is-formed) ∙ rw (g .variables-are, e)
 
-module _ (b : Bool) (ss : List ℤ) (N : List Line) (n : ℕ) (L : List Line) (i : ℕ) (m : Memory) (g : Folding b ss N n L i m) (hs : i < length ss) (hn : i < length N) where
+module _ {b : Bool} {ss : List ℤ} {N : List Line} {n : ℕ} {L : List Line} {i : ℕ} {m : Memory} (g : Folding b ss N n L i m) (hs : i < length ss) (hn : i < length N) where
   pub folding-skip : Bool·beq (isZero (getD ss i (pos 0))) b ≡ false → Folding b ss N n L (i + 1) m
   unfolding chosen
   folding-skip e =
@@ -272,10 +303,10 @@ module _ (b : Bool) (ss : List ℤ) (N : List Line) (n : ℕ) (L : List Line) (i
     unfolding addAll
     folding-more m′ q x =
         let p : T (isPolynomial (m .variables) f) = rw (g .variables-are) q in
-        let z : linesOf m′ ≡ add f w (linesOf m) = added-lines 128 n m m′ f w (g .is-formed) p folding-room x in
+        let z : linesOf m′ ≡ add f w (linesOf m) = added-lines 128 m m′ f w (g .is-formed) p folding-room x in
         record {
-          is-formed = added-formed 128 n m m′ f w (g .is-formed) p folding-room x;
-          variables-are = added-variables 128 n m m′ f w (g .is-formed) p folding-room x ∙ g .variables-are;
+          is-formed = added-formed 128 m m′ f w (g .is-formed) p folding-room x;
+          variables-are = added-variables 128 m m′ f w (g .is-formed) p folding-room x ∙ g .variables-are;
           has-room = rw z (next-room .1 .1);
           rest-is = rw z (rw chosen-next at (g .rest-is));
         }
@@ -290,80 +321,11 @@ judged-large a b q h e = rw (le-leb a b h, e)
 pub judged-done : (a b : ℕ) (q : Bool) → a ≤ b → q ≡ true → Done ≡ verdictOf (leb a b) q
 judged-done a b q h e = rw (le-leb a b h, e)
 
--- ---- a table of four folded into another in two passes
-module _ (old new : Memory) (A : List ℤ) (to : T (formed 128 old)) (tn : T (formed 4 new)) (ev : new .variables ≡ old .variables)
-    (ea : A ≡ weightsAfter (linesOf new) (linesOf old)) (ha : T (allInRange A)) (hl : length (addAll (linesOf new) (linesOf old)) ≤ 128) where
-  pub passes-long : length A ≡ new .lines
-  passes-long = ap length ea ∙ length-after (linesOf new) (linesOf old) ∙ table-length 4 new tn
+-- ---- the places that are read of a run of weights
+pub prefix-fits : (k : ℕ) (l m : List ℤ) → take k l ≡ m → length m ≡ k → k ≤ length l
+prefix-fits k l m e d = omega (arith, ap length e, length-take k l)
 
-  old-short : length (linesOf old) ≤ 128
-  old-short = omega (arith, table-length 128 old to, formed-parts 128 old to .room)
-
-  pub first-room : Room (chosen true A (linesOf new)) (linesOf old)
-  first-room = rw ea (room-first (linesOf new) (linesOf old) (table-ordered 4 new tn) (table-ordered 128 old to) old-short)
-
-  module _ (m : Memory) (e : m ≡ imageOf 128 (old .variables) (addAll (chosen true A (linesOf new)) (linesOf old))) where
-    first-short : length (addAll (chosen true A (linesOf new)) (linesOf old)) ≤ 128
-    first-short = room-length (chosen true A (linesOf new)) (linesOf old) old-short first-room
-
-    first-fit : T (linesFit (old .variables) (addAll (chosen true A (linesOf new)) (linesOf old)))
-    first-fit =
-        let q : Every (λ f. T (isPolynomial (old .variables) f)) (linesOf new) =
-        subst (λ (n : ℕ). Every (λ f. T (isPolynomial n f)) (linesOf new)) ev (fit-every (new .variables) (linesOf new) (formed-parts 4 new tn .fit)) in
-        all-fit (old .variables) (chosen true A (linesOf new)) (linesOf old) (chosen-every (λ f. T (isPolynomial (old .variables) f)) true A (linesOf new) q)
-        (formed-parts 128 old to .fit)
-
-    pub first-formed : T (formed 128 m)
-    first-formed = rw e (image-formed 128 (old .variables) (addAll (chosen true A (linesOf new)) (linesOf old)) first-short first-fit)
-
-    pub first-variables : new .variables ≡ m .variables
-    first-variables = ev ∙ ap (λ (x : Memory). x .variables) (sym e)
-
-    first-lines : linesOf m ≡ addAll (chosen true A (linesOf new)) (linesOf old)
-    first-lines = ap linesOf e ∙ there-and-back 128 (old .variables) (addAll (chosen true A (linesOf new)) (linesOf old))
-        (fits-short (old .variables) (addAll (chosen true A (linesOf new)) (linesOf old)) first-fit)
-
-    pub last-room : Room (chosen false A (linesOf new)) (linesOf m)
-    last-room =
-        let r = room-last (linesOf new) (linesOf old) (table-ordered 4 new tn) (table-ordered 128 old to) (subst (λ (l : List ℤ). T (allInRange l)) ea ha) hl in
-        subst (λ (l : List Line). Room (chosen false A (linesOf new)) l) (sym first-lines)
-        (subst (λ (l : List ℤ). Room (chosen false l (linesOf new)) (addAll (chosen true l (linesOf new)) (linesOf old))) (sym ea) r)
-
-    pub last-all : (k : Memory) → k ≡ imageOf 128 (m .variables) (addAll (chosen false A (linesOf new)) (linesOf m))
-        → k ≡ imageOf 128 (old .variables) (addAll (linesOf new) (linesOf old))
-    last-all k x =
-        let y : addAll (chosen false A (linesOf new)) (linesOf m) ≡ addAll (linesOf new) (linesOf old) =
-        ap (addAll (chosen false A (linesOf new))) first-lines
-        ∙ ap (λ (l : List ℤ). addAll (chosen false l (linesOf new)) (addAll (chosen true l (linesOf new)) (linesOf old))) ea
-        ∙ two-passes (linesOf new) (linesOf old) (table-ordered 128 old to) in
-        x ∙ ap₂ (imageOf 128) (ap (λ (z : Memory). z .variables) e) y
-
--- ---- the changes, folded among themselves
-module _ (C : List Line) (n : ℕ) (new : Memory) (k : length C ≡ 4) (q : Every (λ f. T (isPolynomial n f)) C) (e : new ≡ imageOf 4 n (addAll C [])) where
-  net-short : length (addAll C []) ≤ 4
-  net-short = omega (arith, all-short C [] tt)
-
-  net-fit : T (linesFit n (addAll C []))
-  unfolding linesFit
-  net-fit = all-fit n C [] q tt
-
-  pub net-formed : T (formed 4 new)
-  net-formed = rw e (image-formed 4 n (addAll C []) net-short net-fit)
-
-  pub net-lines : linesOf new ≡ addAll C []
-  net-lines = ap linesOf e ∙ there-and-back 4 n (addAll C []) (fits-short n (addAll C []) net-fit)
-
-  pub net-variables : new .variables ≡ n
-  net-variables = ap (λ (m : Memory). m .variables) e
-
-  pub net-small : Small 42 C → Small 45 (linesOf new)
-  net-small s = subst (Small 45) (sym net-lines) (netted-small C (omega arith) s)
-
--- ---- the outcome
--- the places that are read of a run of weights
-pub prefix-fits : (k : ℕ) (l m : List ℤ) (N : List Line) → take k l ≡ m → length m ≡ length N → length N ≡ k → k ≤ length l
-prefix-fits k l m N e d f = omega (arith, ap length e, length-take k l)
-
+-- ---- the outcome of the two tests
 abbrev outcome : Memory → List Line → Bool → Bool → Replacement
 outcome m L p q = after m (unless p 10 (unless q 11 (taken L)))
 
@@ -383,48 +345,104 @@ done-tests true true e = (tt, tt)
 done-tests true false e = let z : _≡_ {A = ℕ} 0 1 = cc in let w : ⊥ = omega arith in absurd w
 done-tests false q e = let z : _≡_ {A = ℕ} 0 1 = cc in let w : ⊥ = omega arith in absurd w
 
-module _ (C : List Line) (old new : Memory) (t : T (wellFormed old)) (k : length C ≡ 4) (q : Every (λ f. T (isPolynomial (old .variables) f)) C)
-    (e : new ≡ imageOf 4 (old .variables) (addAll C [])) (A B : List ℤ) (eb : B ≡ weightsBefore (linesOf new) (linesOf old)) (ea : A ≡ weightsAfter (linesOf new) (linesOf old))
-    (v : Verdict) (ev : v ≡ verdictOf (leb (old .lines + countHeld A) (128 + countHeld B)) (allInRange A)) where
-  pub whole-formed : T (formed 128 old)
-  whole-formed = well-formed old t
+-- ---- a table of four, with the lines N, folded into another, with the lines L
+module _ (old new : Memory) where
+  abbrev N : List Line
+  N = linesOf new
 
-  whole-fits : T (weightsFit (linesOf old))
-  whole-fits = weights-bound old t
+  abbrev L : List Line
+  L = linesOf old
 
-  whole-ordered : Ordered (linesOf old)
-  whole-ordered = table-ordered 128 old whole-formed
+  -- in two passes, by the weights A afterwards
+  pub record Passes (A : List ℤ) : Type 0 where
+    pub old-formed : T (formed 128 old)
+    pub new-formed : T (formed 4 new)
+    pub same-variables : new .variables ≡ old .variables
+    pub weights-are : A ≡ weightsAfter N L
+    pub in-range : T (allInRange A)
+    pub few : length (addAll N L) ≤ 128
 
-  outcome-is : replaced C old ≡ outcome old (addAll (linesOf new) (linesOf old)) (leb (old .lines + countHeld A) (128 + countHeld B)) (allInRange A)
-  outcome-is =
-      let L : List Line = linesOf old in
-      let x : addAll C [] ≡ linesOf new = sym (net-lines C (old .variables) new k q e) in
-      replace-is C old whole-ordered whole-fits
-      ∙ ap (λ (N : List Line). outcome old (addAll N L) (leb (length L + countHeld (weightsAfter N L)) (128 + countHeld (weightsBefore N L))) (allInRange (weightsAfter N L))) x
-      ∙ ap (λ (l : ℕ). outcome old (addAll (linesOf new) L) (leb (l + countHeld (weightsAfter (linesOf new) L)) (128 + countHeld (weightsBefore (linesOf new) L)))
-      (allInRange (weightsAfter (linesOf new) L))) (table-length 128 old whole-formed)
-      ∙ ap₂ (λ (a b : List ℤ). outcome old (addAll (linesOf new) L) (leb (old .lines + countHeld a) (128 + countHeld b)) (allInRange a)) (sym ea) (sym eb)
+  module _ (A : List ℤ) (p : Passes A) where
+    pub passes-long : length A ≡ new .lines
+    passes-long = ap length (p .weights-are) ∙ length-after N L ∙ table-length 4 new (p .new-formed)
 
-  pub refused : OneOf (1 ∷ 2 ∷ []) (tagOf the-type v) → replacementOf old v ≡ replaced C old
-  refused o =
-      refused-is old (addAll (linesOf new) (linesOf old)) v (leb (old .lines + countHeld A) (128 + countHeld B)) (allInRange A) ev o ∙ sym outcome-is
+    old-short : length L ≤ 128
+    old-short = omega (arith, table-length 128 old (p .old-formed), formed-parts 128 old (p .old-formed) .room)
 
-  module _ (d : v ≡ Done) where
-    tests : T (leb (old .lines + countHeld A) (128 + countHeld B)) × T (allInRange A)
-    tests = done-tests (leb (old .lines + countHeld A) (128 + countHeld B)) (allInRange A) (sym d ∙ ev)
+    pub first-room : Room (chosen true A N) L
+    first-room = rw (p .weights-are) (room-first N L (table-ordered 4 new (p .new-formed)) (table-ordered 128 old (p .old-formed)) old-short)
 
-    pub in-limits : T (allInRange A)
-    in-limits = tests .1
+    -- m is what the first pass leaves
+    module _ (m : Memory) (e : m ≡ imageOf 128 (old .variables) (addAll (chosen true A N) L)) where
+      first-fit : T (linesFit (old .variables) (addAll (chosen true A N) L))
+      first-fit =
+          let q : Every (λ f. T (isPolynomial (old .variables) f)) N =
+          subst (λ (n : ℕ). Every (λ f. T (isPolynomial n f)) N) (p .same-variables) (fit-every (new .variables) N (formed-parts 4 new (p .new-formed) .fit)) in
+          all-fit (old .variables) (chosen true A N) L (chosen-every (λ f. T (isPolynomial (old .variables) f)) true A N q) (formed-parts 128 old (p .old-formed) .fit)
 
-    pub in-lines-limit : length (addAll (linesOf new) (linesOf old)) ≤ 128
-    in-lines-limit =
-        let h : old .lines + countHeld A ≤ 128 + countHeld B = leb→le (old .lines + countHeld A) (128 + countHeld B) (tests .0) in
-        let l = after-length (linesOf new) (linesOf old) (table-ordered 4 new (net-formed C (old .variables) new k q e)) whole-ordered in
-        omega (arith, ap countHeld ea, ap countHeld eb, table-length 128 old whole-formed)
+      pub first-formed : T (formed 128 m)
+      first-formed = rw e (image-formed 128 (old .variables) (addAll (chosen true A N) L) (room-length (chosen true A N) L old-short first-room) first-fit)
 
-    pub replaced-is : (m : Memory) → m ≡ imageOf 128 (old .variables) (addAll (linesOf new) (linesOf old)) → replacementOf m v ≡ replaced C old
-    replaced-is m x =
-        let p : leb (old .lines + countHeld A) (128 + countHeld B) ≡ true = is-true (leb (old .lines + countHeld A) (128 + countHeld B)) (tests .0) in
-        let y : allInRange A ≡ true = is-true (allInRange A) (tests .1) in
-        ap₂ (λ (a : Memory) (b : Verdict). replacementOf a b) x d
-        ∙ sym (outcome-is ∙ ap₂ (λ (a b : Bool). outcome old (addAll (linesOf new) (linesOf old)) a b) p y)
+      pub first-variables : new .variables ≡ m .variables
+      first-variables = p .same-variables ∙ ap (λ (x : Memory). x .variables) (sym e)
+
+      first-lines : linesOf m ≡ addAll (chosen true A N) L
+      first-lines = ap linesOf e ∙ there-and-back 128 (old .variables) (addAll (chosen true A N) L) (fits-short (old .variables) (addAll (chosen true A N) L) first-fit)
+
+      pub last-room : Room (chosen false A N) (linesOf m)
+      last-room =
+          let r = room-last N L (table-ordered 4 new (p .new-formed)) (table-ordered 128 old (p .old-formed)) (subst (λ (l : List ℤ). T (allInRange l)) (p .weights-are) (p .in-range)) (p .few) in
+          subst (λ (l : List Line). Room (chosen false A N) l) (sym first-lines)
+          (subst (λ (l : List ℤ). Room (chosen false l N) (addAll (chosen true l N) L)) (sym (p .weights-are)) r)
+
+      pub last-all : (k : Memory) → k ≡ imageOf 128 (m .variables) (addAll (chosen false A N) (linesOf m)) → k ≡ imageOf 128 (old .variables) (addAll N L)
+      last-all k x =
+          let y : addAll (chosen false A N) (linesOf m) ≡ addAll N L = ap (addAll (chosen false A N)) first-lines
+          ∙ ap (λ (l : List ℤ). addAll (chosen false l N) (addAll (chosen true l N) L)) (p .weights-are) ∙ two-passes N L (table-ordered 128 old (p .old-formed)) in
+          x ∙ ap₂ (imageOf 128) (ap (λ (z : Memory). z .variables) e) y
+
+  -- judged: the weights B before and A afterwards, and the verdict v on them
+  pub record Judged (B A : List ℤ) (v : Verdict) : Type 0 where
+    pub well : T (wellFormed old)
+    pub new-formed : T (formed 4 new)
+    pub before-are : B ≡ weightsBefore N L
+    pub after-are : A ≡ weightsAfter N L
+    pub verdict-is : v ≡ verdictOf (leb (old .lines + countHeld A) (128 + countHeld B)) (allInRange A)
+
+  module _ (B A : List ℤ) (v : Verdict) (j : Judged B A v) where
+    abbrev few : Bool
+    few = leb (old .lines + countHeld A) (128 + countHeld B)
+
+    whole-formed : T (formed 128 old)
+    whole-formed = well-formed old (j .well)
+
+    outcome-is : replaced N old ≡ outcome old (addAll N L) few (allInRange A)
+    outcome-is =
+        replace-is N old (table-ordered 4 new (j .new-formed)) (table-ordered 128 old whole-formed) (weights-bound old (j .well))
+        ∙ ap (λ (l : ℕ). outcome old (addAll N L) (leb (l + countHeld (weightsAfter N L)) (128 + countHeld (weightsBefore N L))) (allInRange (weightsAfter N L))) (table-length 128 old whole-formed)
+        ∙ ap₂ (λ (a b : List ℤ). outcome old (addAll N L) (leb (old .lines + countHeld a) (128 + countHeld b)) (allInRange a)) (sym (j .after-are)) (sym (j .before-are))
+
+    pub refused : OneOf (1 ∷ 2 ∷ []) (tagOf the-type v) → replacementOf old v ≡ replaced N old
+    refused o = refused-is old (addAll N L) v few (allInRange A) (j .verdict-is) o ∙ sym outcome-is
+
+    module _ (d : v ≡ Done) where
+      tests : T few × T (allInRange A)
+      tests = done-tests few (allInRange A) (sym d ∙ j .verdict-is)
+
+      pub passes : new .variables ≡ old .variables → Passes A
+      passes e =
+          let h : old .lines + countHeld A ≤ 128 + countHeld B = leb→le (old .lines + countHeld A) (128 + countHeld B) (tests .0) in
+          let l = after-length N L (table-ordered 4 new (j .new-formed)) (table-ordered 128 old whole-formed) in
+          record {
+            old-formed = whole-formed;
+            new-formed = j .new-formed;
+            same-variables = e;
+            weights-are = j .after-are;
+            in-range = tests .1;
+            few = omega (arith, ap countHeld (j .after-are), ap countHeld (j .before-are), table-length 128 old whole-formed);
+          }
+
+      pub replaced-is : (m : Memory) → m ≡ imageOf 128 (old .variables) (addAll N L) → replacementOf m v ≡ replaced N old
+      replaced-is m x =
+          ap₂ (λ (a : Memory) (b : Verdict). replacementOf a b) x d
+          ∙ sym (outcome-is ∙ ap₂ (λ (a b : Bool). outcome old (addAll N L) a b) (is-true few (tests .0)) (is-true (allInRange A) (tests .1)))

@@ -1,19 +1,19 @@
--- Lines in a table: whether a polynomial is held, the search by halving, and what putting a line in and taking it out do to the areas.
+-- Lines in a table: whether a polynomial is held, the search by halving, and what putting a line in, taking it out and weighing it anew do to the index
+-- and to one row of the areas.
 use mathlib.Core.Path.{_≡_, refl, sym, ap, _∙_}
 use mathlib.Core.Logic.{_⊎_, inl, inr}
 use mathlib.Core.Bool.{Bool, true, false, _&&_, true≢false}
 use mathlib.Core.List.{List, [], _∷_, _++_, append-assoc}
 use Prim.Native.Nat.{ℕ, zero, suc, _+_, _-_, _*_, _≤_, _<_}
-use native.Mathlib.Nat.{le-of-suc-le-suc, not-suc-le-zero}
-use native.Mathlib.Numerals.{add-one, one-add}
+use native.Mathlib.Nat.{one-mul, le-of-suc-le-suc, not-suc-le-zero}
 use native.Mathlib.Omega.{arith}
 use lib.Dec.{T, leb, leb→le}
 use lib.IntN.{ℤ, pos, _+ℤ_}
-use lib.ListN.{length, getD, set, take, drop, replicate, length-append, length-drop, take-append-drop}
-use lib.Seq.{slice, length-slice, getD-drop, length-take-le, take-append-le, take-take, take-at, drop-at, drop-drop, drop-cons, set-at, set-split, append-snoc}
+use lib.ListN.{length, getD, set, take, drop, replicate, length-append, length-drop, take-append-drop, length-replicate, length-set, replicate-append-replicate}
+use lib.Seq.{slice, length-slice, getD-drop, length-take-le, take-at, drop-at, drop-drop, drop-append-le}
 use Rattle.run.specs.Boolean.{left, right}
 use Rattle.run.specs.Run.{sorted}
-use Rattle.term.specs.Term.{before}
+use Rattle.term.specs.Term.{before, keyOf}
 use Rattle.polynomial.specs.Polynomial.{orderOf}
 use Rattle.polynomial.specs.OrderingLaws.{order-self, order-same}
 use Rattle.polynomial.specs.declared.Ordering.{Ordering}
@@ -22,9 +22,11 @@ use Rattle.configuration.specs.Weight.{isZero}
 use Rattle.configuration.specs.Configuration.{Line, line, some, byOrder, weight, keep, add, Ordered, placeOf, isHeld, below, isPolynomial}
 use Rattle.configuration.specs.ConfigurationLaws.{fit-ordered}
 use Rattle.configuration.specs.PlaceLaws.{Fresh, place-le, fold-held, fold-new, weight-held, weight-new, earlier-left, earlier-right, same-here}
-use Rattle.configuration.specs.Memory.{Memory, memoryOf, readLines, linesOf, imageOf, laidOut, zeros, formed}
-use Rattle.configuration.proofs.Forms.{rowAt}
-use Rattle.configuration.specs.MemoryLaws.{Short, Formed, formed-parts, formed-image, fits-short, length-lines, line-at, insert-terms, insert-weights, insert-counts, remove-terms, remove-weights, remove-counts, reweigh, reweigh-terms, reweigh-counts}
+use Rattle.configuration.specs.Memory.{Memory, rows, memoryOf, readLines, linesOf, imageOf, laidOut, zeros, formed}
+use Rattle.configuration.proofs.Forms.{laid-short, rowAt}
+use Rattle.configuration.specs.MemoryLaws.{Short, Formed, every-append, every-take, every-drop, length-rows, zeros-replicate, there-and-back, formed-parts, formed-image, fits-short, length-lines, line-at, insert-terms, insert-weights, insert-counts, remove-terms, remove-weights, remove-counts, reweigh, reweigh-terms, reweigh-counts}
+use Rattle.configuration.specs.Index.{rowOf, keyIn, arranged, indexedOf, linesBy, Once, firstKey, Keyed, Kept}
+use Rattle.configuration.specs.IndexLaws.{written, entered, left as leaving, row-is, put-in, taken-out, value-is, value-set, set-written, entered-once, left-once, entered-length, left-length, keyed-put, keyed-out, keyed-weighed}
 use Rattle.configuration.specs.declared.Head.{Head}
 
 -- ---- whether a polynomial is held
@@ -158,73 +160,35 @@ module _ (f : List ℕ) (k : ℕ) (ts : List ℕ) (ws : List ℤ) (cs : List ℕ
       go (inr e) = not-held f none (rowAt ts cs high) (getD ws high (pos 0)) (readLines k ts ws cs)
           (inr (rw q (omega (arith, length-lines k ts ws cs, e .0)), (rw q (line-at k high ts ws cs none (e .0)), e .1)))
 
--- ---- elements moved, and others written where they stood
+-- ---- a row of an area, of k places
 module _ {A : Type 0} where
-  -- those from s to e move up by b; a run g, and then z, fill the places from s to s + b
-  pub filled : (l m n r g : List A) (s e b : ℕ) (z : A) → s ≤ e → e + b ≤ length l → length g ≤ b
-      → m ≡ take (s + b) l ++ (slice s e l ++ drop (e + b) l)
-      → n ≡ take s m ++ (g ++ drop (s + length g) m)
-      → r ≡ take (s + length g) n ++ (replicate (s + b - (s + length g)) z ++ drop (s + b) n)
-      → r ≡ take s l ++ (g ++ replicate (b - length g) z) ++ slice s e l ++ drop (e + b) l
-  filled l m n r g s e b z hs he hg em en er =
-      let Q : List A = slice s e l ++ drop (e + b) l in
-      let j : ℕ = s + length g in
-      let lb : s + b ≤ length l = omega arith in
-      let ls : s ≤ length l = omega arith in
-      let lf : length (take (s + b) l) ≡ s + b = length-take-le (s + b) l lb in
-      let sb : s ≤ s + b = omega arith in
-      let sf : s ≤ length (take (s + b) l) = omega arith in
-      let front : take s m ≡ take s l = rw (em, take-append-le s (take (s + b) l) Q sf) (take-take s (s + b) l sb) in
-      let back : drop (s + b) m ≡ Q = rw em (drop-at (take (s + b) l) Q (s + b) lf) in
-      let run : n ≡ take s l ++ g ++ drop j m = en ∙ rw front (sym (append-assoc (take s l) g (drop j m))) in
-      let lg : length (take s l ++ g) ≡ j = length-append (take s l) g ∙ rw (length-take-le s l ls) in
-      let front₂ : take j n ≡ take s l ++ g = rw run (take-at (take s l ++ g) (drop j m) j lg) in
-      let jb : j + (b - length g) ≡ s + b = omega arith in
-      let back₂ : drop (s + b) n ≡ Q =
-      rw (← jb, ← drop-drop (b - length g) j n, run, drop-at (take s l ++ g) (drop j m) j lg, drop-drop (b - length g) j m, jb) back in
-      let zs : s + b - j ≡ b - length g = omega arith in
-      er ∙ rw (front₂, back₂, zs) (simp append-assoc)
+  -- equal places, in two parts
+  equal-parts : (n k : ℕ) (z : A) → n ≤ k → replicate n z ++ replicate (k - n) z ≡ replicate k z
+  equal-parts n k z h = let e : n + (k - n) ≡ k = omega arith in replicate-append-replicate n (k - n) z ∙ rw e
 
-  -- those from k to e move up by one, and x comes in at k
-  pub put : (l m : List A) (k e : ℕ) (x : A) → k ≤ e → e + 1 ≤ length l → m ≡ take (k + 1) l ++ (slice k e l ++ drop (e + 1) l)
-      → set m k x ≡ take k l ++ (x ∷ slice k e l) ++ drop (e + 1) l
-  put l m k e x hk he em =
-      let Q : List A = slice k e l ++ drop (e + 1) l in
-      let l1 : k + 1 ≤ length l = omega arith in
-      let lf : length (take (k + 1) l) ≡ suc k = length-take-le (k + 1) l l1 ∙ add-one k in
-      let kf : k ≤ length (take (k + 1) l) = omega arith in
-      let k1 : k ≤ k + 1 = omega arith in
-      let lm : k < length m = rw (em, length-append (take (k + 1) l) Q) (omega arith) in
-      let front : take k m ≡ take k l = rw (em, take-append-le k (take (k + 1) l) Q kf) (take-take k (k + 1) l k1) in
-      let back : drop (suc k) m ≡ Q = rw em (drop-at (take (k + 1) l) Q (suc k) lf) in
-      set-split m k x lm ∙ rw (front, back) (simp append-assoc)
+  equal-part : (m a b : ℕ) (z : A) → a ≤ b → b ≤ m → slice a b (replicate m z) ≡ replicate (b - a) z
+  equal-part m a b z h k =
+      rw (← equal-parts b m z k, take-at (replicate b z) (replicate (m - b) z) b (length-replicate b z), ← equal-parts a b z h)
+      (drop-at (replicate a z) (replicate (b - a) z) a (length-replicate a z))
 
-  -- those from s to e move down by b, to p and t
-  module _ (l m : List A) (s e b p t : ℕ) (hs : s ≡ p + b) (he : e ≡ t + b) (hl : s ≤ e) (hn : e ≤ length l)
-      (em : m ≡ take (s - b) l ++ (slice s e l ++ drop (e - b) l)) where
-    kept : length (take p l ++ slice s e l) ≡ t
-    kept = let lp : p ≤ length l = omega arith in length-append (take p l) (slice s e l) ∙ rw (length-take-le p l lp, length-slice s e l hn) (omega arith)
+  length-filled : (k : ℕ) (x : List A) (z : A) → length x ≤ k → length (x ++ replicate (k - length x) z) ≡ k
+  length-filled k x z h = simp (length-append, length-replicate) (omega arith)
 
-    moved : m ≡ take p l ++ slice s e l ++ drop t l
-    moved =
-        let sp : s - b ≡ p = omega arith in
-        let et : e - b ≡ t = omega arith in
-        em ∙ rw (sp, et) (sym (append-assoc (take p l) (slice s e l) (drop t l)))
+  -- x is written at the front of row r, whose places from the n-th on are z
+  row-written : (k r n : ℕ) (x l : List A) (z : A) → n ≤ k → k * r + k ≤ length l → slice n k (drop (k * r) l) ≡ replicate (k - n) z
+      → take (k * r) l ++ (x ++ drop (k * r + n) l) ≡ written k r (x ++ replicate (k - n) z) l
+  row-written k r n x l z h b e =
+      let d : List A = drop (k * r) l in
+      let ld : k ≤ length d = simp length-drop (omega arith) in
+      let ln : n ≤ length (take k d) = omega (arith, length-take-le k d ld) in
+      let back : drop (k * r + n) l ≡ replicate (k - n) z ++ drop (k * r + k) l =
+      sym (drop-drop n (k * r) l) ∙ ap (drop n) (sym (take-append-drop k d)) ∙ drop-append-le n (take k d) (drop k d) ln ∙ rw (e, drop-drop k (k * r) l) in
+      rw back (ap (λ (y : List A). take (k * r) l ++ y) (sym (append-assoc x (replicate (k - n) z) (drop (k * r + k) l))))
 
-    pub blanked : (r : List A) (z : A) → r ≡ take t m ++ (replicate (e - t) z ++ drop e m) → r ≡ take p l ++ slice s e l ++ replicate b z ++ drop e l
-    blanked r z er =
-        let F : List A = take p l ++ slice s e l in
-        let eb : e - t ≡ b = omega arith in
-        let front : take t m ≡ F = rw moved (take-at F (drop t l) t kept) in
-        let back : drop e m ≡ drop e l = rw (he, ← drop-drop b t m, moved, drop-at F (drop t l) t kept, drop-drop b t l) in
-        er ∙ rw (front, back, eb) (simp append-assoc)
-
-    pub taken : (z : A) → b ≡ 1 → set m t z ≡ take p l ++ slice s e l ++ (z ∷ []) ++ drop e l
-    taken z one =
-        let F : List A = take p l ++ slice s e l in
-        let lt : t < length l = omega arith in
-        let et : suc t ≡ e = omega arith in
-        rw (moved, drop-cons l t z lt, set-at F (getD l t z) (drop (suc t) l) z t kept, et) (sym (append-snoc F z (drop e l)))
+  length-written : (k r : ℕ) (x l : List A) → k * r + k ≤ length l → length x ≡ k → length (written k r x l) ≡ length l
+  length-written k r x l h e =
+      let lt : k * r ≤ length l = omega arith in
+      simp (length-append, length-drop) (omega (arith, length-take-le (k * r) l lt))
 
 -- ---- polynomials
 pub short-polynomial : (n : ℕ) (f : List ℕ) → T (isPolynomial n f) → length f ≤ 64
@@ -233,6 +197,14 @@ short-polynomial n f t = leb→le (length f) 64 (left (leb (length f) 64) (below
 pub some-of : (f : List ℕ) → (length f ≡ 0 → ⊥) → T (some f)
 some-of [] h = absurd (h refl)
 some-of (t ∷ f) h = tt
+
+pub some-length : (f : List ℕ) → T (some f) → 0 < length f
+some-length [] h = absurd h
+some-length (t ∷ f) h = omega arith
+
+pub first-key : (f : List ℕ) → T (some f) → keyOf (getD f 0 0) ≡ firstKey f
+first-key [] h = absurd h
+first-key (t ∷ f) h = refl
 
 add-none : (f : List ℕ) (w : ℤ) (L : List Line) → length f ≡ 0 → add f w L ≡ L
 unfolding add
@@ -268,29 +240,29 @@ module _ (c : ℕ) (h : Head) (ts : List ℕ) (ws : List ℤ) (cs : List ℕ) (t
   counts-are : cs ≡ (imageOf c (h .variables) L) .counts
   counts-are = ap (λ (m : Memory). m .counts) image
 
-  pub line-put : (k : ℕ) (f : List ℕ) (w : ℤ) (ts′ : List ℕ) (ws′ : List ℤ) (cs′ : List ℕ) → k ≤ h .lines → h .lines < c
-      → ts′ ≡ take (64 * k) ts ++ (f ++ replicate (64 - length f) 0) ++ slice (64 * k) (64 * h .lines) ts ++ drop (64 * h .lines + 64) ts
-      → ws′ ≡ take k ws ++ (w ∷ (slice k (h .lines) ws ++ drop (h .lines + 1) ws))
-      → cs′ ≡ take k cs ++ (length f ∷ slice k (h .lines) cs) ++ drop (h .lines + 1) cs
+  -- a line put in at place k: the row of each area comes in there, and the first free row goes
+  line-put : (k : ℕ) (f : List ℕ) (w : ℤ) (ts′ : List ℕ) (ws′ : List ℤ) (cs′ : List ℕ) → k ≤ h .lines → h .lines < c
+      → ts′ ≡ take (64 * k) ts ++ ((f ++ replicate (64 - length f) 0) ++ (slice (64 * k) (64 * h .lines) ts ++ drop (64 * (h .lines + 1)) ts))
+      → ws′ ≡ take (1 * k) ws ++ (w ∷ (slice (1 * k) (1 * h .lines) ws ++ drop (1 * (h .lines + 1)) ws))
+      → cs′ ≡ take (1 * k) cs ++ (length f ∷ (slice (1 * k) (1 * h .lines) cs ++ drop (1 * (h .lines + 1)) cs))
       → memoryOf (record { variables = h .variables; lines = h .lines + 1 }) ts′ ws′ cs′ ≡ imageOf c (h .variables) (take k L ++ line f w ∷ drop k L)
   line-put k f w ts′ ws′ cs′ hk hc et ew ec =
       let n : ℕ = h .variables in
       let kl : k ≤ length L = omega (arith, size) in
       let lc : length L < c = omega (arith, size) in
-      let m : 64 * (length L + 1) ≡ 64 * h .lines + 64 = omega (arith, size) in
       let N : Memory = imageOf c n (take k L ++ line f w ∷ drop k L) in
-      let pt : N .terms ≡ ts′ = insert-terms c n k L f w short kl lc ∙ rw (← terms-are, m, size) (sym et) in
-      let pw : N .weights ≡ ws′ = insert-weights c n k L f w short kl lc
-      ∙ rw (← weights-are, size) (append-assoc (take k ws) (w ∷ slice k (h .lines) ws) (drop (h .lines + 1) ws) ∙ sym ew) in
-      let pc : N .counts ≡ cs′ = insert-counts c n k L f w short kl lc ∙ rw (← counts-are, size) (sym ec) in
+      let pt : N .terms ≡ ts′ = insert-terms c n k L f w short kl lc ∙ rw (← terms-are, size) (simp append-assoc (sym (simp append-assoc at et))) in
+      let pw : N .weights ≡ ws′ = insert-weights c n k L f w short kl lc ∙ rw (← weights-are, size) (simp append-assoc (sym (simp one-mul at ew))) in
+      let pc : N .counts ≡ cs′ = insert-counts c n k L f w short kl lc ∙ rw (← counts-are, size) (simp append-assoc (sym (simp one-mul at ec))) in
       let pl : N .lines ≡ h .lines + 1 =
       length-append (take k L) (line f w ∷ drop k L) ∙ rw (length-take-le k L kl, length-drop k L) (omega (arith, size)) in
       λ i. record { variables = n; lines = sym pl i; terms = sym pt i; weights = sym pw i; counts = sym pc i }
 
-  pub line-taken : (k : ℕ) (ts′ : List ℕ) (ws′ : List ℤ) (cs′ : List ℕ) → k < h .lines
-      → ts′ ≡ take (64 * k) ts ++ slice (64 * (k + 1)) (64 * h .lines) ts ++ replicate 64 0 ++ drop (64 * h .lines) ts
-      → ws′ ≡ take k ws ++ (slice (k + 1) (h .lines) ws ++ (pos 0 ∷ drop (h .lines) ws))
-      → cs′ ≡ take k cs ++ slice (k + 1) (h .lines) cs ++ (0 ∷ []) ++ drop (h .lines) cs
+  -- line k taken out: its row goes from each area, and a blank one comes in behind the others
+  line-taken : (k : ℕ) (ts′ : List ℕ) (ws′ : List ℤ) (cs′ : List ℕ) → k < h .lines
+      → ts′ ≡ take (64 * k) ts ++ (slice (64 * (k + 1)) (64 * h .lines) ts ++ (replicate 64 0 ++ drop (64 * h .lines) ts))
+      → ws′ ≡ take (1 * k) ws ++ (slice (1 * (k + 1)) (1 * h .lines) ws ++ (pos 0 ∷ drop (1 * h .lines) ws))
+      → cs′ ≡ take (1 * k) cs ++ (slice (1 * (k + 1)) (1 * h .lines) cs ++ (0 ∷ drop (1 * h .lines) cs))
       → memoryOf (record { variables = h .variables; lines = h .lines - 1 }) ts′ ws′ cs′ ≡ imageOf c (h .variables) (take k L ++ drop (suc k) L)
   line-taken k ts′ ws′ cs′ hk et ew ec =
       let n : ℕ = h .variables in
@@ -298,9 +270,9 @@ module _ (c : ℕ) (h : Head) (ts : List ℕ) (ws : List ℤ) (cs : List ℕ) (t
       let k≤ : k ≤ length L = omega (arith, size) in
       let lc : length L ≤ c = omega (arith, size, parts .room) in
       let N : Memory = imageOf c n (take k L ++ drop (suc k) L) in
-      let pt : N .terms ≡ ts′ = remove-terms c n k L short kl lc ∙ rw (← terms-are, size) (sym et) in
-      let pw : N .weights ≡ ws′ = remove-weights c n k L short kl lc ∙ rw (← weights-are, size) (simp append-assoc (sym ew)) in
-      let pc : N .counts ≡ cs′ = remove-counts c n k L short kl lc ∙ rw (← counts-are, size) (sym ec) in
+      let pt : N .terms ≡ ts′ = remove-terms c n k L short kl lc ∙ rw (← terms-are, size) (simp append-assoc (sym et)) in
+      let pw : N .weights ≡ ws′ = remove-weights c n k L short kl lc ∙ rw (← weights-are, size) (simp append-assoc (sym (simp one-mul at ew))) in
+      let pc : N .counts ≡ cs′ = remove-counts c n k L short kl lc ∙ rw (← counts-are, size) (simp append-assoc (sym (simp one-mul at ec))) in
       let pl : N .lines ≡ h .lines - 1 =
       length-append (take k L) (drop (suc k) L) ∙ rw (length-take-le k L k≤, length-drop (suc k) L) (omega (arith, size)) in
       λ i. record { variables = n; lines = sym pl i; terms = sym pt i; weights = sym pw i; counts = sym pc i }
@@ -321,6 +293,214 @@ module _ (c : ℕ) (h : Head) (ts : List ℕ) (ws : List ℤ) (cs : List ℕ) (t
 
   pub add-empty : (f : List ℕ) (w : ℤ) → length f ≡ 0 → memoryOf h ts ws cs ≡ imageOf c (h .variables) (add f w L)
   add-empty f w e = image ∙ ap (imageOf c (h .variables)) (sym (add-none f w L e))
+
+-- ---- an index, and the areas whose rows it has
+pub row-below : (c i : ℕ) (is : List ℕ) → Once c is → i < length is → rowOf (getD is i 0) < c
+row-below c i [] o h = absurd (not-suc-le-zero h)
+row-below c zero (e ∷ is) o h = o .0
+row-below c (suc i) (e ∷ is) o h = row-below c i is (o .1 .1) (le-of-suc-le-suc h)
+
+-- the unused places of a line that is laid out are zero
+laid-unused : (k i : ℕ) (ts : List ℕ) (ws : List ℤ) (cs : List ℕ) → T (laidOut k ts ws cs) → i < k → T (zeros (slice (getD cs i 0) 64 (drop (64 * i) ts)))
+unfolding laidOut
+laid-unused zero i ts ws cs t h = absurd (not-suc-le-zero h)
+laid-unused (suc k) zero ts ws cs t h = left (zeros (slice (getD cs 0 0) 64 ts)) _ (right (leb (getD cs 0 0) 64) _ t)
+laid-unused (suc k) (suc i) ts ws cs t h =
+    let e : 1 + i ≡ suc i = omega arith in
+    let d : 64 + 64 * i ≡ 64 * suc i = omega arith in
+    rw (getD-drop 1 cs i 0, e, drop-drop (64 * i) 64 ts, d) at (laid-unused k i (drop 64 ts) (drop 1 ws) (drop 1 cs)
+    (right (zeros (slice (getD cs 0 0) 64 ts)) _ (right (leb (getD cs 0 0) 64) _ t)) (le-of-suc-le-suc h))
+
+module _ {c : ℕ} {h : Head} {is ts : List ℕ} {ws : List ℤ} {cs : List ℕ} (q : Kept c h is ts ws cs) where
+  -- the row of a place, in each area
+  module _ (i : ℕ) (l : i < c) where
+    in-index : i < length is
+    in-index = omega (arith, q .entries)
+
+    pub row-in-table : rowOf (getD is i 0) < c
+    row-in-table = row-below c i is (q .once) in-index
+
+    pub weight-at : getD (arranged 1 is ws) i (pos 0) ≡ getD ws (rowOf (getD is i 0)) (pos 0)
+    weight-at = value-is c is ws (q .once) (omega (arith, q .weights-length)) i in-index (pos 0)
+
+    pub count-at : getD (arranged 1 is cs) i 0 ≡ getD cs (rowOf (getD is i 0)) 0
+    count-at = value-is c is cs (q .once) (omega (arith, q .counts-length)) i in-index 0
+
+    row-at : take 64 (drop (64 * i) (arranged 64 is ts)) ≡ take 64 (drop (64 * rowOf (getD is i 0)) ts)
+    row-at = row-is c 64 is ts (q .once) (omega (arith, q .terms-length)) i 64 in-index (omega arith)
+
+module _ {c : ℕ} {h : Head} {is ts : List ℕ} {ws : List ℤ} {cs : List ℕ} (q : Kept c h is ts ws cs) (t : T (formed c (indexedOf h is ts ws cs))) where
+  abbrev K : List Line
+  K = linesBy h is ts ws cs
+
+  abbrev whole : Formed c (indexedOf h is ts ws cs)
+  whole = parts c h (arranged 64 is ts) (arranged 1 is ws) (arranged 1 is cs) t
+
+  many-lines : length K ≡ h .lines
+  many-lines = size c h (arranged 64 is ts) (arranged 1 is ws) (arranged 1 is cs) t
+
+  -- every line has an entry
+  pub room : h .lines ≤ length is
+  room = omega (arith, whole .room, q .entries)
+
+  pub in-use : (i : ℕ) → i < h .lines → i < c
+  in-use i l = omega (arith, whole .room)
+
+  fitting : Short K
+  fitting = short c h (arranged 64 is ts) (arranged 1 is ws) (arranged 1 is cs) t
+
+  -- what is kept when the areas stand for the lines M
+  kept-with : (k : ℕ) (is′ ts′ : List ℕ) (ws′ : List ℤ) (cs′ : List ℕ) (M : List Line)
+      → indexedOf (record { variables = h .variables; lines = k }) is′ ts′ ws′ cs′ ≡ imageOf c (h .variables) M
+      → length is′ ≡ length is → length ts′ ≡ length ts → length ws′ ≡ length ws → length cs′ ≡ length cs
+      → Once c is′ → Short M → Keyed is′ M → Kept c (record { variables = h .variables; lines = k }) is′ ts′ ws′ cs′
+  kept-with k is′ ts′ ws′ cs′ M e li lt lw lc o s y =
+      let el : linesBy (record { variables = h .variables; lines = k }) is′ ts′ ws′ cs′ ≡ M = ap linesOf e ∙ there-and-back c (h .variables) M s in
+      record {
+        capacity = q .capacity;
+        variables-bound = q .variables-bound;
+        entries = li ∙ q .entries;
+        once = o;
+        terms-length = lt ∙ q .terms-length;
+        weights-length = lw ∙ q .weights-length;
+        counts-length = lc ∙ q .counts-length;
+        keyed = rw el y;
+      }
+
+  -- ---- a line put in: its terms, its weight and its count in the first free row, and an entry at its place
+  module _ (at r : ℕ) (f : List ℕ) (w : ℤ) {e : ℕ} {is′ ts′ : List ℕ} (ha : at ≤ h .lines) (hc : h .lines < c) (hf : length f ≤ 64)
+      (er : r ≡ rowOf (getD is (h .lines) 0)) (ee : e ≡ 128 * firstKey f + r) (ei : is′ ≡ entered at (h .lines) e is)
+      (et : ts′ ≡ take (64 * r) ts ++ (f ++ drop (64 * r + length f) ts)) where
+    put-below : r < c
+    put-below = rw er (row-in-table q (h .lines) hc)
+
+    put-row : rowOf e ≡ r
+    put-row = omega (arith, put-below, q .capacity)
+
+    put-key : keyIn e ≡ firstKey f
+    put-key = omega (arith, put-below, q .capacity)
+
+    put-place : 64 * r + 64 ≤ length ts
+    put-place = omega (arith, put-below, q .terms-length)
+
+    -- the places of the row are zero
+    free : slice (length f) 64 (drop (64 * r) ts) ≡ replicate (64 - length f) 0
+    free =
+        let Z : List ℕ = replicate (64 * (c - length K)) 0 in
+        let n : length (rows K) ≡ 64 * h .lines = length-rows K fitting ∙ ap (λ (k : ℕ). 64 * k) many-lines in
+        let l : 64 ≤ 64 * (c - length K) = omega (arith, many-lines) in
+        rw (er, ← row-at q (h .lines) hc)
+        (ap (λ (x : List ℕ). slice (length f) 64 (drop (64 * h .lines) x)) (terms-are c h (arranged 64 is ts) (arranged 1 is ws) (arranged 1 is cs) t)
+        ∙ ap (slice (length f) 64) (drop-at (rows K) Z (64 * h .lines) n) ∙ equal-part (64 * (c - length K)) (length f) 64 0 hf l)
+
+    terms-put : ts′ ≡ written 64 r (f ++ replicate (64 - length f) 0) ts
+    terms-put = et ∙ row-written 64 r (length f) f ts 0 hf put-place free
+
+    values-put : {A : Type 0} (l : List A) (v : A) → length l ≡ c → arranged 1 is′ (set l r v)
+        ≡ take (1 * at) (arranged 1 is l) ++ (v ∷ (slice (1 * at) (1 * h .lines) (arranged 1 is l) ++ drop (1 * (h .lines + 1)) (arranged 1 is l)))
+    values-put l v hl =
+        rw (ei, set-written r v l (omega (arith, put-below)), ← put-row)
+        (put-in c 1 is l (q .once) (omega arith) at (h .lines) e (v ∷ []) ha (in-index q (h .lines) hc) (put-row ∙ er) refl)
+
+    table-put : indexedOf (record { variables = h .variables; lines = h .lines + 1 }) is′ ts′ (set ws r w) (set cs r (length f))
+        ≡ imageOf c (h .variables) (take at K ++ line f w ∷ drop at K)
+    table-put =
+        line-put c h (arranged 64 is ts) (arranged 1 is ws) (arranged 1 is cs) t at f w _ _ _ ha hc
+        (rw (ei, terms-put, ← put-row)
+        (put-in c 64 is ts (q .once) (omega (arith, q .terms-length)) at (h .lines) e (f ++ replicate (64 - length f) 0) ha (in-index q (h .lines) hc) (put-row ∙ er) (length-filled 64 f 0 hf)))
+        (values-put ws w (q .weights-length)) (values-put cs (length f) (q .counts-length))
+
+    kept-put : Kept c (record { variables = h .variables; lines = h .lines + 1 }) is′ ts′ (set ws r w) (set cs r (length f))
+    kept-put =
+        kept-with (h .lines + 1) is′ ts′ (set ws r w) (set cs r (length f)) (take at K ++ line f w ∷ drop at K) table-put
+        (rw ei (entered-length at (h .lines) e is ha (in-index q (h .lines) hc)))
+        (rw terms-put (length-written 64 r (f ++ replicate (64 - length f) 0) ts put-place (length-filled 64 f 0 hf)))
+        (length-set ws r w) (length-set cs r (length f))
+        (rw ei (entered-once c is (q .once) at (h .lines) e ha (in-index q (h .lines) hc) (put-row ∙ er)))
+        (every-append _ (take at K) (line f w ∷ drop at K) (every-take _ at K fitting) (hf, every-drop _ at K fitting))
+        (rw ei (rw many-lines at (keyed-put is K (q .keyed) at e f w (omega (arith, many-lines)) (omega (arith, many-lines, q .entries)) put-key)))
+
+    pub inserted : (indexedOf (record { variables = h .variables; lines = h .lines + 1 }) is′ ts′ (set ws r w) (set cs r (length f))
+        ≡ imageOf c (h .variables) (take at K ++ line f w ∷ drop at K))
+        × Kept c (record { variables = h .variables; lines = h .lines + 1 }) is′ ts′ (set ws r w) (set cs r (length f))
+    inserted = (table-put, kept-put)
+
+  module _ (at r : ℕ) (ha : at < h .lines) (er : r ≡ rowOf (getD is at 0)) where
+    pub held-below : r < c
+    held-below = rw er (row-in-table q at (in-use at ha))
+
+    pub count-short : getD cs r 0 ≤ 64
+    count-short = rw (er, ← count-at q at (in-use at ha)) (laid-short (h .lines) at (arranged 64 is ts) (arranged 1 is ws) (arranged 1 is cs) (whole .laid) ha)
+
+    -- ---- the line at a place taken out: the terms, the weight and the count of its row become zero, and the row is free
+    module _ {is′ ts′ : List ℕ} (ei : is′ ≡ leaving at (h .lines) r is)
+        (et : ts′ ≡ take (64 * r) ts ++ (replicate (64 * r + getD cs r 0 - 64 * r) 0 ++ drop (64 * r + getD cs r 0) ts)) where
+      out-row : rowOf r ≡ r
+      out-row = omega (arith, held-below, q .capacity)
+
+      out-place : 64 * r + 64 ≤ length ts
+      out-place = omega (arith, held-below, q .terms-length)
+
+      -- the other places of the row are zero
+      unused : slice (getD cs r 0) 64 (drop (64 * r) ts) ≡ replicate (64 - getD cs r 0) 0
+      unused =
+          let x : List ℕ = drop (64 * at) (arranged 64 is ts) in
+          let n : ℕ = getD (arranged 1 is cs) at 0 in
+          let l : 64 ≤ length x = simp length-drop (omega (arith, whole .terms-length, in-use at ha)) in
+          rw (er, ← row-at q at (in-use at ha), ← count-at q at (in-use at ha))
+          (zeros-replicate (slice n 64 x) (laid-unused (h .lines) at (arranged 64 is ts) (arranged 1 is ws) (arranged 1 is cs) (whole .laid) ha) ∙ rw (length-slice n 64 x l))
+
+      terms-out : ts′ ≡ written 64 r (replicate 64 0) ts
+      terms-out =
+          let n : ℕ = getD cs r 0 in
+          let e : 64 * r + n - 64 * r ≡ n = omega arith in
+          et ∙ rw e (rw (equal-parts {A = ℕ} n 64 0 count-short) at (row-written 64 r n (replicate n 0) ts 0 count-short out-place unused))
+
+      values-out : {A : Type 0} (l : List A) (v : A) → length l ≡ c → arranged 1 is′ (set l r v)
+          ≡ take (1 * at) (arranged 1 is l) ++ (slice (1 * (at + 1)) (1 * h .lines) (arranged 1 is l) ++ (v ∷ drop (1 * h .lines) (arranged 1 is l)))
+      values-out l v hl =
+          rw (ei, set-written r v l (omega (arith, held-below)))
+          (rw out-row at (taken-out c 1 is l (q .once) (omega arith) at (h .lines) r (v ∷ []) ha room (out-row ∙ er) refl))
+
+      table-out : indexedOf (record { variables = h .variables; lines = h .lines - 1 }) is′ ts′ (set ws r (pos 0)) (set cs r 0)
+          ≡ imageOf c (h .variables) (take at K ++ drop (suc at) K)
+      table-out =
+          line-taken c h (arranged 64 is ts) (arranged 1 is ws) (arranged 1 is cs) t at _ _ _ ha
+          (rw (ei, terms-out)
+          (rw out-row at (taken-out c 64 is ts (q .once) (omega (arith, q .terms-length)) at (h .lines) r (replicate 64 0) ha room (out-row ∙ er) refl)))
+          (values-out ws (pos 0) (q .weights-length)) (values-out cs 0 (q .counts-length))
+
+      kept-out : Kept c (record { variables = h .variables; lines = h .lines - 1 }) is′ ts′ (set ws r (pos 0)) (set cs r 0)
+      kept-out =
+          kept-with (h .lines - 1) is′ ts′ (set ws r (pos 0)) (set cs r 0) (take at K ++ drop (suc at) K) table-out
+          (rw ei (left-length at (h .lines) r is ha room))
+          (rw terms-out (length-written 64 r (replicate 64 0) ts out-place refl))
+          (length-set ws r (pos 0)) (length-set cs r 0)
+          (rw ei (left-once c is (q .once) at (h .lines) r ha room (out-row ∙ er)))
+          (every-append _ (take at K) (drop (suc at) K) (every-take _ at K fitting) (every-drop _ (suc at) K fitting))
+          (rw ei (rw many-lines at (keyed-out is K (q .keyed) at r (omega (arith, many-lines)) (omega (arith, many-lines, whole .room, q .entries)))))
+
+      pub removed : (indexedOf (record { variables = h .variables; lines = h .lines - 1 }) is′ ts′ (set ws r (pos 0)) (set cs r 0)
+          ≡ imageOf c (h .variables) (take at K ++ drop (suc at) K))
+          × Kept c (record { variables = h .variables; lines = h .lines - 1 }) is′ ts′ (set ws r (pos 0)) (set cs r 0)
+      removed = (table-out, kept-out)
+
+    -- ---- the line at a place weighed anew
+    module _ (f : List ℕ) (u w : ℤ) (hf : length f ≤ 64) (el : getD K at none ≡ line f u) where
+      table-weighed : indexedOf h is ts (set ws r w) cs ≡ imageOf c (h .variables) (take at K ++ line f w ∷ drop (suc at) K)
+      table-weighed =
+          rw (er, value-set c is ws (q .once) (omega (arith, q .weights-length)) at (in-index q at (in-use at ha)) w)
+          (line-weighed c h (arranged 64 is ts) (arranged 1 is ws) (arranged 1 is cs) t at f u w ha el)
+
+      kept-weighed : Kept c h is ts (set ws r w) cs
+      kept-weighed =
+          kept-with (h .lines) is ts (set ws r w) cs (take at K ++ line f w ∷ drop (suc at) K) table-weighed
+          refl refl (length-set ws r w) refl (q .once)
+          (every-append _ (take at K) (line f w ∷ drop (suc at) K) (every-take _ at K fitting) (hf, every-drop _ (suc at) K fitting))
+          (keyed-weighed is K (q .keyed) at f u w none (omega (arith, many-lines)) el)
+
+      pub weighed : (indexedOf h is ts (set ws r w) cs ≡ imageOf c (h .variables) (take at K ++ line f w ∷ drop (suc at) K)) × Kept c h is ts (set ws r w) cs
+      weighed = (table-weighed, kept-weighed)
 
 -- ---- what a search for f among the lines of a memory found: its place, and whether it is held
 pub record Placed (c : ℕ) (h : Head) (ts : List ℕ) (ws : List ℤ) (cs : List ℕ) (f : List ℕ) (at : ℕ) (b : Bool) : Type 0 where
@@ -346,10 +526,7 @@ module _ {c : ℕ} {h : Head} {ts : List ℕ} {ws : List ℤ} {cs f : List ℕ} 
     pub in-table : at < h .lines
     in-table = omega (arith, x .place, many, among-lines)
 
-    pub in-weights : at < length ws
-    in-weights = omega (arith, in-table, parts c h ts ws cs (x .well))
-
-    line-here : getD M at none ≡ line f (getD ws at (pos 0))
+    pub line-here : getD M at none ≡ line f (getD ws at (pos 0))
     line-here =
         let y = held-line f none M (sym (x .is-held) ∙ e) .1 in
         let l : getD M at none ≡ line f (y .0) = rw (x .place) (y .1) in
@@ -367,10 +544,8 @@ module _ {c : ℕ} {h : Head} {ts : List ℕ} {ws : List ℤ} {cs f : List ℕ} 
       pub add-gone : isZero (getD ws at (pos 0) +ℤ w) ≡ true → add f w M ≡ take at M ++ drop (suc at) M
       add-gone z = add-held ∙ rw z
 
-      pub add-changed : isZero (getD ws at (pos 0) +ℤ w) ≡ false
-          → memoryOf h ts (set ws at (getD ws at (pos 0) +ℤ w)) cs ≡ imageOf c (h .variables) (add f w M)
-      add-changed z = line-weighed c h ts ws cs (x .well) at f (getD ws at (pos 0)) (getD ws at (pos 0) +ℤ w) in-table line-here
-          ∙ ap (imageOf c (h .variables)) (sym (add-held ∙ rw z))
+      pub add-changed : isZero (getD ws at (pos 0) +ℤ w) ≡ false → add f w M ≡ take at M ++ line f (getD ws at (pos 0) +ℤ w) ∷ drop (suc at) M
+      add-changed z = add-held ∙ rw z
 
   -- ---- f is not held
   module _ (e : b ≡ false) where

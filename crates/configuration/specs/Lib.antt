@@ -8,4 +8,8 @@ pub mod ConfigurationLaws
 pub mod PlaceLaws
 pub mod MemoryLaws
 pub mod ReplacementLaws
+pub mod Index
+pub mod Settling
+pub mod IndexLaws
+pub mod TurnLaws
 pub mod WeightLaws

@@ -7,11 +7,9 @@ use lib.Dec.{leb}
 use lib.IntN.{ℤ, _+ℤ_}
 use lib.Signed.{mag}
 use lib.ListN.{length}
-use Rattle.polynomial.specs.Polynomial.{termsOf}
 use Rattle.configuration.specs.Weight.{isZero}
 use Rattle.configuration.specs.Configuration.{Line, line, weight, add, addAll, weightsFit}
 use Rattle.configuration.specs.Memory.{Memory, linesOf, imageOf}
-use Rattle.configuration.specs.declared.Change.{Change}
 use Rattle.configuration.specs.declared.Verdict.{Verdict}
 use Rattle.configuration.specs.declared.Verdict.the-variants.{Done, TooManyLines, WeightTooLarge}
 
@@ -28,11 +26,6 @@ unless false n s = refused n
 -- the limits: at most 128 lines, then every weight from −10^12 to 10^12
 unfoldable pub within : List Line → Step
 within L = unless (leb (length L) 128) 10 (unless (weightsFit L) 11 (taken L))
-
--- the weighted polynomials that code folds in together
-unfoldable pub changesOf : List Change → List Line
-changesOf [] = []
-changesOf (c ∷ cs) = line (termsOf (c .polynomial)) (c .amount) ∷ changesOf cs
 
 -- no weight is as large as 2 ^ k, on either side of zero
 abbrev pub Small : ℕ → List Line → Type 0

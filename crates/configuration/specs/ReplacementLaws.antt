@@ -243,7 +243,7 @@ small-lines (line f w ∷ L) r h = (rw (weight-head f w L (r .1 .1 .0)) at (h f)
 pub netted-small : (C : List Line) → length C ≤ 4 → Small 42 C → Small 45 (addAll C [])
 netted-small C l h = small-lines (addAll C []) (all-ordered C [] tt) (netted-weight C l h)
 
--- ---- the outcome of a replacement: the changes are folded among themselves first, and both tests are of the weights before and after
+-- ---- the outcome of a replacement: both tests are of the weights before and after
 same-test : (a b c d : ℕ) → a + d ≡ b + c → leb a 128 ≡ leb (b + c) (128 + d)
 same-test a b c d e = bool-ext (leb a 128) (leb (b + c) (128 + d)) (λ t. le→leb (b + c) (128 + d) (omega (arith, leb→le a 128 t)))
     (λ t. le→leb a 128 (omega (arith, leb→le (b + c) (128 + d) t)))
@@ -254,14 +254,16 @@ pub few-lines : (N L : List Line) → Ordered N → Ordered L
 few-lines N L s r =
     same-test (length (addAll N L)) (length L) (countHeld (weightsAfter N L)) (countHeld (weightsBefore N L)) (after-length N L s r)
 
-pub replace-is : (C : List Line) (m : Memory) → Ordered (linesOf m) → T (weightsFit (linesOf m))
-    → replaced C m ≡ after m (unless (leb (length (linesOf m) + countHeld (weightsAfter (addAll C []) (linesOf m))) (128 + countHeld (weightsBefore (addAll C []) (linesOf m)))) 10
-    (unless (allInRange (weightsAfter (addAll C []) (linesOf m))) 11 (taken (addAll (addAll C []) (linesOf m)))))
+pub replace-is : (N : List Line) (m : Memory) → Ordered N → Ordered (linesOf m) → T (weightsFit (linesOf m))
+    → replaced N m ≡ after m (unless (leb (length (linesOf m) + countHeld (weightsAfter N (linesOf m))) (128 + countHeld (weightsBefore N (linesOf m)))) 10
+    (unless (allInRange (weightsAfter N (linesOf m))) 11 (taken (addAll N (linesOf m)))))
 unfolding replaced within
-replace-is C m r h =
-    let N : List Line = addAll C [] in
-    let s : Ordered N = all-ordered C [] tt in
-    rw (← netted C (linesOf m) r, few-lines N (linesOf m) s r, after-fits N (linesOf m) s r h)
+replace-is N m s r h = rw (few-lines N (linesOf m) s r, after-fits N (linesOf m) s r h)
+
+-- changes that are folded among themselves first replace as they do one by one
+pub replaced-netted : (C : List Line) (m : Memory) → Ordered (linesOf m) → replaced (addAll C []) m ≡ replaced C m
+unfolding replaced
+replaced-netted C m r = ap (λ (L : List Line). after m (within L)) (netted C (linesOf m) r)
 
 -- ---- what the two passes leave
 pub room-length : (N L : List Line) → length L ≤ 128 → Room N L → length (addAll N L) ≤ 128

@@ -1,8 +1,7 @@
-// Moving and clearing parts of an area. They are for the functions of this crate that put lines in and take them out.
+// Parts of an area. These functions are for those of this crate that put lines in and take them out.
 ghost use mathlib.Core.Path.{_≡_};
-ghost use mathlib.Core.List.{_++_, [], _∷_};
+ghost use mathlib.Core.List.{_++_, _∷_};
 ghost use Prim.Native.Nat.{_+_, _-_, _≤_, _<_};
-ghost use lib.IntN.{pos};
 ghost use lib.ListN.{length, take, drop, replicate};
 ghost use lib.Seq.{slice};
 ghost use Rattle.configuration.specs.Memory.{zeros, zeroWeights};
@@ -59,52 +58,28 @@ pub fn write(area: &mut [u32], at: usize, run: &[u32])
     }
 }
 
-// Moves the numbers from start to end up by some places, the last first.
-pub fn move_up(area: &mut [u32], start: usize, end: usize, by: usize)
-    requires { ⌜ (start ≤ end) × (end + by ≤ length (now area)) ⌝ }
-    ensures { λ _. ⌜ now (area .exit) ≡ take (start + by) (now (area .entry)) ++ (slice start end (now (area .entry)) ++ drop (end + by) (now (area .entry))) ⌝ }
-{
-    let mut i = end;
-    while start < i {
-        i -= 1;
-        area[i + by] = area[i];
-    }
-}
-
-// Moves the numbers from start to end down by some places, the first first.
-pub fn move_down(area: &mut [u32], start: usize, end: usize, by: usize)
-    requires { ⌜ (by ≤ start) × (start ≤ end) × (end ≤ length (now area)) ⌝ }
-    ensures { λ _. ⌜ now (area .exit) ≡ take (start - by) (now (area .entry)) ++ (slice start end (now (area .entry)) ++ drop (end - by) (now (area .entry))) ⌝ }
-{
-    let mut i = start;
-    while i < end {
-        area[i - by] = area[i];
-        i += 1;
-    }
-}
-
-// Puts a weight in at a place; the weights from there to the end move up by one.
-pub fn insert_weight(weights: &mut [i64], at: usize, end: usize, weight: i64)
-    requires { ⌜ (at ≤ end) × (end < length (now weights)) ⌝ }
-    ensures { λ _. ⌜ now (weights .exit) ≡ take at (now (weights .entry)) ++ (weight ∷ (slice at end (now (weights .entry)) ++ drop (end + 1) (now (weights .entry)))) ⌝ }
+// Puts an entry in at a place of an index; the entries from there to the end move up by one.
+pub fn insert_entry(index: &mut [u64], at: usize, end: usize, entry: u64)
+    requires { ⌜ (at ≤ end) × (end < length (now index)) ⌝ }
+    ensures { λ _. ⌜ now (index .exit) ≡ take at (now (index .entry)) ++ (entry ∷ (slice at end (now (index .entry)) ++ drop (end + 1) (now (index .entry)))) ⌝ }
 {
     let mut i = end;
     while at < i {
         i -= 1;
-        weights[i + 1] = weights[i];
+        index[i + 1] = index[i];
     }
-    weights[at] = weight;
+    index[at] = entry;
 }
 
-// Takes out the weight at a place; those after it, to the end, move down by one, and a zero comes in behind them.
-pub fn remove_weight(weights: &mut [i64], at: usize, end: usize)
-    requires { ⌜ (at < end) × (end ≤ length (now weights)) ⌝ }
-    ensures { λ _. ⌜ now (weights .exit) ≡ take at (now (weights .entry)) ++ (slice (at + 1) end (now (weights .entry)) ++ (pos 0 ∷ drop end (now (weights .entry)))) ⌝ }
+// Takes out the entry at a place of an index; those after it, to the end, move down by one, and another comes in behind them.
+pub fn remove_entry(index: &mut [u64], at: usize, end: usize, entry: u64)
+    requires { ⌜ (at < end) × (end ≤ length (now index)) ⌝ }
+    ensures { λ _. ⌜ now (index .exit) ≡ take at (now (index .entry)) ++ (slice (at + 1) end (now (index .entry)) ++ (entry ∷ drop end (now (index .entry)))) ⌝ }
 {
     let mut i = at + 1;
     while i < end {
-        weights[i - 1] = weights[i];
+        index[i - 1] = index[i];
         i += 1;
     }
-    weights[end - 1] = 0;
+    index[end - 1] = entry;
 }

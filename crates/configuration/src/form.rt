@@ -147,19 +147,19 @@ pub fn is_negative(weight: i64) -> bool
     weight < 0
 }
 
-// Whether none of the first weights of a run is negative. It is for the crates above, which lend a run that is long enough.
-pub fn none_negative(lines: usize, weights: &[i64]) -> bool
-    requires { ⌜ lines ≤ length (now weights) ⌝ }
-    ensures { λ r. ⌜ r ≡ noneNegative (take lines (now (weights .entry))) ⌝ }
+// Whether none of the weights of a run is negative. It does not stop at the first, so that several are looked at at once.
+pub fn none_negative(weights: &[i64]) -> bool
+    ensures { λ r. ⌜ r ≡ noneNegative (now (weights .entry)) ⌝ }
 {
+    let mut negative: usize = 0;
     let mut i: usize = 0;
-    while i < lines {
+    while i < weights.len() {
         if is_negative(weights[i]) {
-            return false;
+            negative += 1;
         }
         i += 1;
     }
-    true
+    negative == 0
 }
 
 // Whether lent areas, of any lengths and contents, hold a configuration as document 01 asks.

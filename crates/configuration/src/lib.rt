@@ -2,21 +2,14 @@
 mod area;
 pub mod blank;
 pub mod form;
+pub mod index;
 pub mod replace;
 pub mod table;
-
-use polynomial::Polynomial;
 
 // The head of a configuration: how many variables the problem has, and how many lines are held.
 pub struct Head {
     pub variables: u32,
     pub lines: u32,
-}
-
-// A weighted polynomial that is added to a configuration.
-pub struct Change {
-    pub polynomial: Polynomial,
-    pub amount: i64,
 }
 
 // Whether a replacement was made, or which limit forbade it.

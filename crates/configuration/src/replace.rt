@@ -1,54 +1,25 @@
-// The replacement of weighted polynomials, all or nothing: the changes are folded among themselves first, in a table of
-// four lines, then the outcome is judged, and only then lines are written. Lines that vanish go first, so that the table
-// never has more lines than the larger of before and after.
-use crate::Change;
+// The replacement of weighted polynomials, all or nothing: the changes have been folded among themselves, in a table of
+// four lines; the outcome is judged, and only then lines are written. Lines that vanish go first, so that the table never
+// has more lines than the larger of before and after.
 use crate::Head;
 use crate::Replaced;
 use crate::Verdict;
 use crate::form::weights_fit;
+use crate::index::row_at;
 use crate::table::fold_in;
 use crate::table::row;
 use crate::table::weight_of;
-use polynomial::Polynomial;
 ghost use mathlib.Core.Path.{_≡_};
 ghost use mathlib.Core.List.{[], _∷_};
 ghost use Prim.Native.Nat.{_+_, _≤_, _<_, _^_};
 ghost use lib.Dec.{T, leb};
-ghost use lib.IntN.{pos};
 ghost use lib.Signed.{mag};
-ghost use lib.ListN.{length, take, replicate};
-ghost use Rattle.polynomial.specs.Polynomial.{termsOf};
+ghost use lib.ListN.{length, take};
 ghost use Rattle.configuration.specs.Weight.{allInRange};
-ghost use Rattle.configuration.specs.Configuration.{line, addAll, isPolynomial, Every};
-ghost use Rattle.configuration.specs.Memory.{memoryOf, linesIn, imageOf, formed, wellFormed};
-ghost use Rattle.configuration.specs.Replacement.{changesOf, Small, Room, weightsBefore, weightsAfter, countHeld, chosen, verdictOf, replacementOf, replaced};
-
-// Folds the changes into an empty table of four lines.
-fn fold_changes(
-    variables: u32,
-    changes: [Change; 4],
-    terms: &mut [u32],
-    weights: &mut [i64],
-    counts: &mut [u32],
-) -> Head
-    requires { ⌜ (now terms ≡ replicate 256 0) × (now weights ≡ replicate 4 (pos 0)) × (now counts ≡ replicate 4 0) × Every (λ f. T (isPolynomial variables f)) (changesOf changes) × Small 42 (changesOf changes) ⌝ }
-    ensures { λ r. ⌜ memoryOf r (now (terms .exit)) (now (weights .exit)) (now (counts .exit)) ≡ imageOf 4 variables (addAll (changesOf changes) []) ⌝ }
-{
-    let mut head = Head {
-        variables,
-        lines: 0,
-    };
-    let mut i: usize = 0;
-    while i < 4 {
-        let change = changes[i];
-        let p = change.polynomial;
-        let f = p.terms;
-        let end = polynomial::held(p);
-        head = fold_in(head, terms, weights, counts, &f[..end], change.amount);
-        i += 1;
-    }
-    head
-}
+ghost use Rattle.configuration.specs.Configuration.{line, addAll, isPolynomial};
+ghost use Rattle.configuration.specs.Memory.{imageOf, formed, wellFormed};
+ghost use Rattle.configuration.specs.Index.{indexedOf, linesBy, Kept};
+ghost use Rattle.configuration.specs.Replacement.{Small, Room, weightsBefore, weightsAfter, countHeld, chosen, verdictOf, replacementOf, replaced};
 
 // The weights of the polynomials of a table of four, before and after it is folded into another.
 struct Weighed {
@@ -58,27 +29,37 @@ struct Weighed {
 
 fn weigh(
     head: Head,
+    index: &[u64],
     terms: &[u32],
     weights: &[i64],
     counts: &[u32],
     new: Head,
+    new_index: &[u64],
     new_terms: &[u32],
     new_weights: &[i64],
     new_counts: &[u32],
 ) -> Weighed
-    requires { ⌜ T (wellFormed (memoryOf head (now terms) (now weights) (now counts))) × T (formed 4 (memoryOf new (now «new_terms») (now «new_weights») (now «new_counts»))) × Small 45 (linesIn new (now «new_terms») (now «new_weights») (now «new_counts»)) ⌝ }
-    ensures first { λ r. ⌜ take (new .lines) (r .before) ≡ weightsBefore (linesIn new (now («new_terms» .entry)) (now («new_weights» .entry)) (now («new_counts» .entry))) (linesIn head (now (terms .entry)) (now (weights .entry)) (now (counts .entry))) ⌝ }
-    ensures last { λ r. ⌜ take (new .lines) (r .after) ≡ weightsAfter (linesIn new (now («new_terms» .entry)) (now («new_weights» .entry)) (now («new_counts» .entry))) (linesIn head (now (terms .entry)) (now (weights .entry)) (now (counts .entry))) ⌝ }
+    requires { ⌜ Kept 128 head (now index) (now terms) (now weights) (now counts) × T (wellFormed (indexedOf head (now index) (now terms) (now weights) (now counts))) × Kept 4 new (now «new_index») (now «new_terms») (now «new_weights») (now «new_counts») × T (formed 4 (indexedOf new (now «new_index») (now «new_terms») (now «new_weights») (now «new_counts»))) × Small 45 (linesBy new (now «new_index») (now «new_terms») (now «new_weights») (now «new_counts»)) ⌝ }
+    ensures first { λ r. ⌜ take (new .lines) (r .before) ≡ weightsBefore (linesBy new (now («new_index» .entry)) (now («new_terms» .entry)) (now («new_weights» .entry)) (now («new_counts» .entry))) (linesBy head (now (index .entry)) (now (terms .entry)) (now (weights .entry)) (now (counts .entry))) ⌝ }
+    ensures last { λ r. ⌜ take (new .lines) (r .after) ≡ weightsAfter (linesBy new (now («new_index» .entry)) (now («new_terms» .entry)) (now («new_weights» .entry)) (now («new_counts» .entry))) (linesBy head (now (index .entry)) (now (terms .entry)) (now (weights .entry)) (now (counts .entry))) ⌝ }
 {
     let mut before = [0i64; 4];
     let mut after = [0i64; 4];
     let lines = new.lines as usize;
     let mut i: usize = 0;
     while i < lines {
-        let count = new_counts[i] as usize;
-        let old = weight_of(head, terms, weights, counts, row(new_terms, i, count));
+        let here = row_at(new_index, i);
+        let count = new_counts[here] as usize;
+        let old = weight_of(
+            head,
+            index,
+            terms,
+            weights,
+            counts,
+            row(new_terms, here, count),
+        );
         before[i] = old;
-        after[i] = old + new_weights[i];
+        after[i] = old + new_weights[here];
         i += 1;
     }
     Weighed { before, after }
@@ -102,18 +83,21 @@ fn held_weights(weights: &[i64]) -> usize
 // Folds in the lines of a table of four that vanish, or those that do not.
 fn fold_chosen(
     head: Head,
+    index: &mut [u64],
     terms: &mut [u32],
     weights: &mut [i64],
     counts: &mut [u32],
     new: Head,
+    new_index: &[u64],
     new_terms: &[u32],
     new_weights: &[i64],
     new_counts: &[u32],
     after: &[i64],
     vanishing: bool,
 ) -> Head
-    requires { ⌜ T (formed 128 (memoryOf head (now terms) (now weights) (now counts))) × T (formed 4 (memoryOf new (now «new_terms») (now «new_weights») (now «new_counts»))) × (new .variables ≡ head .variables) × (length (now after) ≡ new .lines) × Room (chosen vanishing (now after) (linesIn new (now «new_terms») (now «new_weights») (now «new_counts»))) (linesIn head (now terms) (now weights) (now counts)) ⌝ }
-    ensures { λ r. ⌜ memoryOf r (now (terms .exit)) (now (weights .exit)) (now (counts .exit)) ≡ imageOf 128 (head .variables) (addAll (chosen vanishing (now (after .entry)) (linesIn new (now («new_terms» .entry)) (now («new_weights» .entry)) (now («new_counts» .entry)))) (linesIn head (now (terms .entry)) (now (weights .entry)) (now (counts .entry)))) ⌝ }
+    requires { ⌜ Kept 128 head (now index) (now terms) (now weights) (now counts) × T (formed 128 (indexedOf head (now index) (now terms) (now weights) (now counts))) × Kept 4 new (now «new_index») (now «new_terms») (now «new_weights») (now «new_counts») × T (formed 4 (indexedOf new (now «new_index») (now «new_terms») (now «new_weights») (now «new_counts»))) × (new .variables ≡ head .variables) × (length (now after) ≡ new .lines) × Room (chosen vanishing (now after) (linesBy new (now «new_index») (now «new_terms») (now «new_weights») (now «new_counts»))) (linesBy head (now index) (now terms) (now weights) (now counts)) ⌝ }
+    ensures table { λ r. ⌜ indexedOf r (now (index .exit)) (now (terms .exit)) (now (weights .exit)) (now (counts .exit)) ≡ imageOf 128 (head .variables) (addAll (chosen vanishing (now (after .entry)) (linesBy new (now («new_index» .entry)) (now («new_terms» .entry)) (now («new_weights» .entry)) (now («new_counts» .entry)))) (linesBy head (now (index .entry)) (now (terms .entry)) (now (weights .entry)) (now (counts .entry)))) ⌝ }
+    ensures kept { λ r. ⌜ Kept 128 r (now (index .exit)) (now (terms .exit)) (now (weights .exit)) (now (counts .exit)) ⌝ }
 {
     let mut held = head;
     let lines = new.lines as usize;
@@ -121,14 +105,16 @@ fn fold_chosen(
     while i < lines {
         let vanishes = after[i] == 0;
         if vanishes == vanishing {
-            let count = new_counts[i] as usize;
+            let here = row_at(new_index, i);
+            let count = new_counts[here] as usize;
             held = fold_in(
                 held,
+                index,
                 terms,
                 weights,
                 counts,
-                row(new_terms, i, count),
-                new_weights[i],
+                row(new_terms, here, count),
+                new_weights[here],
             );
         }
         i += 1;
@@ -155,24 +141,29 @@ fn judge(held: usize, before: &[i64], after: &[i64]) -> Verdict
 // Folds a table of four into another, the lines that vanish first.
 fn fold_table(
     head: Head,
+    index: &mut [u64],
     terms: &mut [u32],
     weights: &mut [i64],
     counts: &mut [u32],
     new: Head,
+    new_index: &[u64],
     new_terms: &[u32],
     new_weights: &[i64],
     new_counts: &[u32],
     after: &[i64],
 ) -> Head
-    requires { ⌜ T (formed 128 (memoryOf head (now terms) (now weights) (now counts))) × T (formed 4 (memoryOf new (now «new_terms») (now «new_weights») (now «new_counts»))) × (new .variables ≡ head .variables) × (now after ≡ weightsAfter (linesIn new (now «new_terms») (now «new_weights») (now «new_counts»)) (linesIn head (now terms) (now weights) (now counts))) × T (allInRange (now after)) × (length (addAll (linesIn new (now «new_terms») (now «new_weights») (now «new_counts»)) (linesIn head (now terms) (now weights) (now counts))) ≤ 128) ⌝ }
-    ensures { λ r. ⌜ memoryOf r (now (terms .exit)) (now (weights .exit)) (now (counts .exit)) ≡ imageOf 128 (head .variables) (addAll (linesIn new (now («new_terms» .entry)) (now («new_weights» .entry)) (now («new_counts» .entry))) (linesIn head (now (terms .entry)) (now (weights .entry)) (now (counts .entry)))) ⌝ }
+    requires { ⌜ Kept 128 head (now index) (now terms) (now weights) (now counts) × T (formed 128 (indexedOf head (now index) (now terms) (now weights) (now counts))) × Kept 4 new (now «new_index») (now «new_terms») (now «new_weights») (now «new_counts») × T (formed 4 (indexedOf new (now «new_index») (now «new_terms») (now «new_weights») (now «new_counts»))) × (new .variables ≡ head .variables) × (now after ≡ weightsAfter (linesBy new (now «new_index») (now «new_terms») (now «new_weights») (now «new_counts»)) (linesBy head (now index) (now terms) (now weights) (now counts))) × T (allInRange (now after)) × (length (addAll (linesBy new (now «new_index») (now «new_terms») (now «new_weights») (now «new_counts»)) (linesBy head (now index) (now terms) (now weights) (now counts))) ≤ 128) ⌝ }
+    ensures table { λ r. ⌜ indexedOf r (now (index .exit)) (now (terms .exit)) (now (weights .exit)) (now (counts .exit)) ≡ imageOf 128 (head .variables) (addAll (linesBy new (now («new_index» .entry)) (now («new_terms» .entry)) (now («new_weights» .entry)) (now («new_counts» .entry))) (linesBy head (now (index .entry)) (now (terms .entry)) (now (weights .entry)) (now (counts .entry)))) ⌝ }
+    ensures kept { λ r. ⌜ Kept 128 r (now (index .exit)) (now (terms .exit)) (now (weights .exit)) (now (counts .exit)) ⌝ }
 {
     let fewer = fold_chosen(
         head,
+        index,
         terms,
         weights,
         counts,
         new,
+        new_index,
         new_terms,
         new_weights,
         new_counts,
@@ -181,10 +172,12 @@ fn fold_table(
     );
     fold_chosen(
         fewer,
+        index,
         terms,
         weights,
         counts,
         new,
+        new_index,
         new_terms,
         new_weights,
         new_counts,
@@ -193,23 +186,36 @@ fn fold_table(
     )
 }
 
-// Replaces weighted polynomials in a configuration: the changes are added, and the limits judged on the outcome alone. A
-// refusal changes nothing. It is for the crates above, which test the configuration and the polynomials first.
+// Replaces weighted polynomials in a configuration: the lines of a table of four are added, and the limits judged on the
+// outcome alone. A refusal changes nothing. It is for the crates above, which test the configuration and the polynomials first.
 pub fn replace(
     head: Head,
+    index: &mut [u64],
     terms: &mut [u32],
     weights: &mut [i64],
     counts: &mut [u32],
-    changes: [Change; 4],
+    new: Head,
+    new_index: &[u64],
+    new_terms: &[u32],
+    new_weights: &[i64],
+    new_counts: &[u32],
 ) -> Replaced
-    requires { ⌜ T (wellFormed (memoryOf head (now terms) (now weights) (now counts))) × Every (λ f. T (isPolynomial (head .variables) f)) (changesOf changes) × Small 42 (changesOf changes) ⌝ }
-    ensures { λ r. ⌜ replacementOf (memoryOf (r .head) (now (terms .exit)) (now (weights .exit)) (now (counts .exit))) (r .verdict) ≡ replaced (changesOf changes) (memoryOf head (now (terms .entry)) (now (weights .entry)) (now (counts .entry))) ⌝ }
+    requires { ⌜ Kept 128 head (now index) (now terms) (now weights) (now counts) × T (wellFormed (indexedOf head (now index) (now terms) (now weights) (now counts))) × Kept 4 new (now «new_index») (now «new_terms») (now «new_weights») (now «new_counts») × T (formed 4 (indexedOf new (now «new_index») (now «new_terms») (now «new_weights») (now «new_counts»))) × (new .variables ≡ head .variables) × Small 45 (linesBy new (now «new_index») (now «new_terms») (now «new_weights») (now «new_counts»)) ⌝ }
+    ensures table { λ r. ⌜ replacementOf (indexedOf (r .head) (now (index .exit)) (now (terms .exit)) (now (weights .exit)) (now (counts .exit))) (r .verdict) ≡ replaced (linesBy new (now («new_index» .entry)) (now («new_terms» .entry)) (now («new_weights» .entry)) (now («new_counts» .entry))) (indexedOf head (now (index .entry)) (now (terms .entry)) (now (weights .entry)) (now (counts .entry))) ⌝ }
+    ensures kept { λ r. ⌜ Kept 128 (r .head) (now (index .exit)) (now (terms .exit)) (now (weights .exit)) (now (counts .exit)) ⌝ }
 {
-    let mut rows = [0u32; 256];
-    let mut sums = [0i64; 4];
-    let mut sizes = [0u32; 4];
-    let new = fold_changes(head.variables, changes, &mut rows, &mut sums, &mut sizes);
-    let found = weigh(head, terms, weights, counts, new, &rows, &sums, &sizes);
+    let found = weigh(
+        head,
+        index,
+        terms,
+        weights,
+        counts,
+        new,
+        new_index,
+        new_terms,
+        new_weights,
+        new_counts,
+    );
     let lines = new.lines as usize;
     let before = found.before;
     let after = found.after;
@@ -219,13 +225,15 @@ pub fn replace(
     };
     let last = fold_table(
         head,
+        index,
         terms,
         weights,
         counts,
         new,
-        &rows,
-        &sums,
-        &sizes,
+        new_index,
+        new_terms,
+        new_weights,
+        new_counts,
         &after[..lines],
     );
     Replaced {
@@ -238,28 +246,44 @@ pub fn replace(
 // problems, which has tested the polynomial and the weight.
 pub fn add(
     head: Head,
+    index: &mut [u64],
     terms: &mut [u32],
     weights: &mut [i64],
     counts: &mut [u32],
-    f: Polynomial,
+    f: &[u32],
     amount: i64,
 ) -> Replaced
-    requires { ⌜ T (wellFormed (memoryOf head (now terms) (now weights) (now counts))) × T (isPolynomial (head .variables) (termsOf f)) × (mag amount < 2 ^ 42) ⌝ }
-    ensures { λ r. ⌜ replacementOf (memoryOf (r .head) (now (terms .exit)) (now (weights .exit)) (now (counts .exit))) (r .verdict) ≡ replaced (line (termsOf f) amount ∷ []) (memoryOf head (now (terms .entry)) (now (weights .entry)) (now (counts .entry))) ⌝ }
+    requires { ⌜ Kept 128 head (now index) (now terms) (now weights) (now counts) × T (wellFormed (indexedOf head (now index) (now terms) (now weights) (now counts))) × T (isPolynomial (head .variables) (now f)) × (mag amount < 2 ^ 42) ⌝ }
+    ensures table { λ r. ⌜ replacementOf (indexedOf (r .head) (now (index .exit)) (now (terms .exit)) (now (weights .exit)) (now (counts .exit))) (r .verdict) ≡ replaced (line (now (f .entry)) amount ∷ []) (indexedOf head (now (index .entry)) (now (terms .entry)) (now (weights .entry)) (now (counts .entry))) ⌝ }
+    ensures kept { λ r. ⌜ Kept 128 (r .head) (now (index .exit)) (now (terms .exit)) (now (weights .exit)) (now (counts .exit)) ⌝ }
 {
-    let change = Change {
-        polynomial: f,
+    let mut new_index = [0u64, 1, 2, 3];
+    let mut new_terms = [0u32; 256];
+    let mut new_weights = [0i64; 4];
+    let mut new_counts = [0u32; 4];
+    let none = Head {
+        variables: head.variables,
+        lines: 0,
+    };
+    let new = fold_in(
+        none,
+        &mut new_index,
+        &mut new_terms,
+        &mut new_weights,
+        &mut new_counts,
+        f,
         amount,
-    };
-    let nothing = Change {
-        polynomial: Polynomial::ZERO,
-        amount: 0,
-    };
+    );
     replace(
         head,
+        index,
         terms,
         weights,
         counts,
-        [change, nothing, nothing, nothing],
+        new,
+        &new_index,
+        &new_terms,
+        &new_weights,
+        &new_counts,
     )
 }

@@ -2,12 +2,14 @@
 // this crate and those above it, which have tested the configuration and the polynomials.
 use crate::Head;
 use crate::area::clear;
-use crate::area::insert_weight;
-use crate::area::move_down;
-use crate::area::move_up;
-use crate::area::remove_weight;
+use crate::area::insert_entry;
+use crate::area::remove_entry;
 use crate::area::write;
+use crate::index::ahead;
+use crate::index::row_at;
 use polynomial::Ordering;
+use polynomial::order::compare_by;
+use term::key;
 use term::table::byte_degrees;
 ghost use mathlib.Core.Path.{_≡_};
 ghost use mathlib.Core.List.{_++_, _∷_};
@@ -15,9 +17,12 @@ ghost use Prim.Native.Nat.{suc, _+_, _*_, _≤_, _<_, _^_};
 ghost use lib.Dec.{T};
 ghost use lib.IntN.{_+ℤ_};
 ghost use lib.Signed.{mag};
-ghost use lib.ListN.{length, take, drop};
+ghost use lib.ListN.{length, getD, take, drop};
+ghost use Rattle.term.specs.Term.{byteDegrees};
+ghost use Rattle.polynomial.specs.Polynomial.{orderOf};
 ghost use Rattle.configuration.specs.Configuration.{line, some, weight, add, isPolynomial, placeOf, isHeld};
-ghost use Rattle.configuration.specs.Memory.{memoryOf, linesIn, imageOf, formed};
+ghost use Rattle.configuration.specs.Memory.{imageOf, formed};
+ghost use Rattle.configuration.specs.Index.{rowOf, keyIn, indexedOf, linesBy, firstKey, Kept};
 
 // Where a polynomial stands, or would stand, among the lines, and whether it is held.
 pub struct Place {
@@ -35,18 +40,49 @@ pub fn row(terms: &[u32], i: usize, count: usize) -> &[u32]
     &terms[start..end]
 }
 
-// Finds the place of a polynomial, by halving.
-pub fn find(head: Head, terms: &[u32], weights: &[i64], counts: &[u32], f: &[u32]) -> Place
-    requires { ⌜ T (formed (length (now counts)) (memoryOf head (now terms) (now weights) (now counts))) ⌝ }
-    ensures { λ r. ⌜ (r .at ≡ placeOf (now (f .entry)) (linesIn head (now (terms .entry)) (now (weights .entry)) (now (counts .entry)))) × (r .held ≡ isHeld (now (f .entry)) (linesIn head (now (terms .entry)) (now (weights .entry)) (now (counts .entry)))) ⌝ }
+// Where a polynomial, whose first term has the given key, stands beside the line of an entry. The keys are compared first.
+fn order_at(
+    table: &[u8; 256],
+    entry: u64,
+    key: u64,
+    terms: &[u32],
+    counts: &[u32],
+    f: &[u32],
+) -> Ordering
+    requires { ⌜ (now table ≡ byteDegrees) × T (some (now f)) × (key ≡ firstKey (now f)) × (rowOf entry < length (now counts)) × (getD (now counts) (rowOf entry) 0 ≤ 64) × (length (now terms) ≡ 64 * length (now counts))
+        × T (some (take (getD (now counts) (rowOf entry) 0) (drop (64 * rowOf entry) (now terms)))) × (keyIn entry ≡ firstKey (take (getD (now counts) (rowOf entry) 0) (drop (64 * rowOf entry) (now terms)))) ⌝ }
+    ensures { λ r. ⌜ r ≡ orderOf (now (f .entry)) (take (getD (now (counts .entry)) (rowOf entry) 0) (drop (64 * rowOf entry) (now (terms .entry)))) ⌝ }
 {
+    if entry / 128 < key {
+        return Ordering::Earlier;
+    }
+    let here = (entry % 128) as usize;
+    let count = counts[here] as usize;
+    compare_by(table, f, row(terms, here, count))
+}
+
+// Finds the place of a polynomial: by the keys of the first terms, then by halving.
+pub fn find(
+    head: Head,
+    index: &[u64],
+    terms: &[u32],
+    weights: &[i64],
+    counts: &[u32],
+    f: &[u32],
+) -> Place
+    requires { ⌜ Kept (length (now counts)) head (now index) (now terms) (now weights) (now counts) × T (formed (length (now counts)) (indexedOf head (now index) (now terms) (now weights) (now counts))) ⌝ }
+    ensures { λ r. ⌜ (r .at ≡ placeOf (now (f .entry)) (linesBy head (now (index .entry)) (now (terms .entry)) (now (weights .entry)) (now (counts .entry)))) × (r .held ≡ isHeld (now (f .entry)) (linesBy head (now (index .entry)) (now (terms .entry)) (now (weights .entry)) (now (counts .entry)))) ⌝ }
+{
+    if f.len() == 0 {
+        return Place { at: 0, held: false };
+    }
     let table = byte_degrees();
-    let mut low: usize = 0;
+    let first = key(f[0]);
     let mut high = head.lines as usize;
+    let mut low = ahead(high, index, first);
+    let mut middle = low;
     while low < high {
-        let middle = low + (high - low) / 2;
-        let count = counts[middle] as usize;
-        let order = polynomial::order::compare_by(&table, f, row(terms, middle, count));
+        let order = order_at(&table, index[middle], first, terms, counts, f);
         match order {
             Ordering::Earlier => {
                 high = middle;
@@ -61,6 +97,7 @@ pub fn find(head: Head, terms: &[u32], weights: &[i64], counts: &[u32], f: &[u32
                 low = middle + 1;
             }
         }
+        middle = low + (high - low) / 2;
     }
     Place {
         at: low,
@@ -69,21 +106,29 @@ pub fn find(head: Head, terms: &[u32], weights: &[i64], counts: &[u32], f: &[u32
 }
 
 // The weight of a polynomial: 0 if it is not held.
-pub fn weight_of(head: Head, terms: &[u32], weights: &[i64], counts: &[u32], f: &[u32]) -> i64
-    requires { ⌜ T (formed (length (now counts)) (memoryOf head (now terms) (now weights) (now counts))) × T (some (now f)) ⌝ }
-    ensures { λ r. ⌜ r ≡ weight (linesIn head (now (terms .entry)) (now (weights .entry)) (now (counts .entry))) (now (f .entry)) ⌝ }
+pub fn weight_of(
+    head: Head,
+    index: &[u64],
+    terms: &[u32],
+    weights: &[i64],
+    counts: &[u32],
+    f: &[u32],
+) -> i64
+    requires { ⌜ Kept (length (now counts)) head (now index) (now terms) (now weights) (now counts) × T (formed (length (now counts)) (indexedOf head (now index) (now terms) (now weights) (now counts))) × T (some (now f)) ⌝ }
+    ensures { λ r. ⌜ r ≡ weight (linesBy head (now (index .entry)) (now (terms .entry)) (now (weights .entry)) (now (counts .entry))) (now (f .entry)) ⌝ }
 {
-    let place = find(head, terms, weights, counts, f);
+    let place = find(head, index, terms, weights, counts, f);
     if place.held {
-        let at = place.at;
-        return weights[at];
+        let here = row_at(index, place.at);
+        return weights[here];
     }
     0
 }
 
-// Puts a line in at a place among the lines.
+// Puts a line in at a place among the lines, in the first row that is free.
 fn insert_line(
     head: Head,
+    index: &mut [u64],
     terms: &mut [u32],
     weights: &mut [i64],
     counts: &mut [u32],
@@ -91,48 +136,49 @@ fn insert_line(
     f: &[u32],
     weight: i64,
 ) -> Head
-    requires { ⌜ T (formed (length (now counts)) (memoryOf head (now terms) (now weights) (now counts))) × (at ≤ head .lines) × (head .lines < length (now counts)) × (length (now f) ≤ 64) × (length (now counts) ≤ 128) ⌝ }
-    ensures { λ r. ⌜ memoryOf r (now (terms .exit)) (now (weights .exit)) (now (counts .exit))
+    requires { ⌜ Kept (length (now counts)) head (now index) (now terms) (now weights) (now counts) × T (formed (length (now counts)) (indexedOf head (now index) (now terms) (now weights) (now counts))) × (at ≤ head .lines) × (head .lines < length (now counts)) × T (some (now f)) × (length (now f) ≤ 64) ⌝ }
+    ensures table { λ r. ⌜ indexedOf r (now (index .exit)) (now (terms .exit)) (now (weights .exit)) (now (counts .exit))
         ≡ imageOf (length (now (counts .entry))) (head .variables)
-        (take at (linesIn head (now (terms .entry)) (now (weights .entry)) (now (counts .entry)))
-        ++ line (now (f .entry)) weight ∷ drop at (linesIn head (now (terms .entry)) (now (weights .entry)) (now (counts .entry)))) ⌝ }
+        (take at (linesBy head (now (index .entry)) (now (terms .entry)) (now (weights .entry)) (now (counts .entry)))
+        ++ line (now (f .entry)) weight ∷ drop at (linesBy head (now (index .entry)) (now (terms .entry)) (now (weights .entry)) (now (counts .entry)))) ⌝ }
+    ensures kept { λ r. ⌜ Kept (length (now (counts .entry))) r (now (index .exit)) (now (terms .exit)) (now (weights .exit)) (now (counts .exit)) ⌝ }
 {
     let lines = head.lines as usize;
-    let start = 64 * at;
-    let end = start + f.len();
-    move_up(terms, start, 64 * lines, 64);
-    write(terms, start, f);
-    clear(terms, end, start + 64);
-    insert_weight(weights, at, lines, weight);
-    move_up(counts, at, lines, 1);
-    counts[at] = f.len() as u32;
+    let here = row_at(index, lines);
+    insert_entry(index, at, lines, 128 * key(f[0]) + (here as u64));
+    write(terms, 64 * here, f);
+    weights[here] = weight;
+    counts[here] = f.len() as u32;
     Head {
         variables: head.variables,
         lines: head.lines + 1,
     }
 }
 
-// Takes the line at a place out.
+// Takes the line at a place out; its row is free.
 fn remove_line(
     head: Head,
+    index: &mut [u64],
     terms: &mut [u32],
     weights: &mut [i64],
     counts: &mut [u32],
     at: usize,
 ) -> Head
-    requires { ⌜ T (formed (length (now counts)) (memoryOf head (now terms) (now weights) (now counts))) × (at < head .lines) × (length (now counts) ≤ 128) ⌝ }
-    ensures { λ r. ⌜ memoryOf r (now (terms .exit)) (now (weights .exit)) (now (counts .exit))
+    requires { ⌜ Kept (length (now counts)) head (now index) (now terms) (now weights) (now counts) × T (formed (length (now counts)) (indexedOf head (now index) (now terms) (now weights) (now counts))) × (at < head .lines) ⌝ }
+    ensures table { λ r. ⌜ indexedOf r (now (index .exit)) (now (terms .exit)) (now (weights .exit)) (now (counts .exit))
         ≡ imageOf (length (now (counts .entry))) (head .variables)
-        (take at (linesIn head (now (terms .entry)) (now (weights .entry)) (now (counts .entry)))
-        ++ drop (suc at) (linesIn head (now (terms .entry)) (now (weights .entry)) (now (counts .entry)))) ⌝ }
+        (take at (linesBy head (now (index .entry)) (now (terms .entry)) (now (weights .entry)) (now (counts .entry)))
+        ++ drop (suc at) (linesBy head (now (index .entry)) (now (terms .entry)) (now (weights .entry)) (now (counts .entry)))) ⌝ }
+    ensures kept { λ r. ⌜ Kept (length (now (counts .entry))) r (now (index .exit)) (now (terms .exit)) (now (weights .exit)) (now (counts .exit)) ⌝ }
 {
     let lines = head.lines as usize;
-    let last = 64 * (lines - 1);
-    move_down(terms, 64 * (at + 1), 64 * lines, 64);
-    clear(terms, last, 64 * lines);
-    remove_weight(weights, at, lines);
-    move_down(counts, at + 1, lines, 1);
-    counts[lines - 1] = 0;
+    let here = row_at(index, at);
+    let start = 64 * here;
+    let count = counts[here] as usize;
+    remove_entry(index, at, lines, here as u64);
+    clear(terms, start, start + count);
+    weights[here] = 0;
+    counts[here] = 0;
     Head {
         variables: head.variables,
         lines: head.lines - 1,
@@ -142,32 +188,35 @@ fn remove_line(
 // Folds a weighted polynomial in: an equal polynomial's weight is added up, a weight or polynomial 0 vanishes.
 pub fn fold_in(
     head: Head,
+    index: &mut [u64],
     terms: &mut [u32],
     weights: &mut [i64],
     counts: &mut [u32],
     f: &[u32],
     amount: i64,
 ) -> Head
-    requires { ⌜ T (formed (length (now counts)) (memoryOf head (now terms) (now weights) (now counts))) × T (isPolynomial (head .variables) (now f)) × (mag (weight (linesIn head (now terms) (now weights) (now counts)) (now f) +ℤ amount) < 2 ^ 63) × (length (add (now f) amount (linesIn head (now terms) (now weights) (now counts))) ≤ length (now counts)) × (length (now counts) ≤ 128) ⌝ }
-    ensures { λ r. ⌜ memoryOf r (now (terms .exit)) (now (weights .exit)) (now (counts .exit))
+    requires { ⌜ Kept (length (now counts)) head (now index) (now terms) (now weights) (now counts) × T (formed (length (now counts)) (indexedOf head (now index) (now terms) (now weights) (now counts))) × T (isPolynomial (head .variables) (now f)) × (mag (weight (linesBy head (now index) (now terms) (now weights) (now counts)) (now f) +ℤ amount) < 2 ^ 63) × (length (add (now f) amount (linesBy head (now index) (now terms) (now weights) (now counts))) ≤ length (now counts)) ⌝ }
+    ensures table { λ r. ⌜ indexedOf r (now (index .exit)) (now (terms .exit)) (now (weights .exit)) (now (counts .exit))
         ≡ imageOf (length (now (counts .entry))) (head .variables)
-        (add (now (f .entry)) amount (linesIn head (now (terms .entry)) (now (weights .entry)) (now (counts .entry)))) ⌝ }
+        (add (now (f .entry)) amount (linesBy head (now (index .entry)) (now (terms .entry)) (now (weights .entry)) (now (counts .entry)))) ⌝ }
+    ensures kept { λ r. ⌜ Kept (length (now (counts .entry))) r (now (index .exit)) (now (terms .exit)) (now (weights .exit)) (now (counts .exit)) ⌝ }
 {
     if f.len() == 0 {
         return head;
     }
-    let place = find(head, terms, weights, counts, f);
+    let place = find(head, index, terms, weights, counts, f);
     let at = place.at;
     if place.held {
-        let sum = weights[at] + amount;
+        let here = row_at(index, at);
+        let sum = weights[here] + amount;
         if sum == 0 {
-            return remove_line(head, terms, weights, counts, at);
+            return remove_line(head, index, terms, weights, counts, at);
         }
-        weights[at] = sum;
+        weights[here] = sum;
         return head;
     }
     if amount == 0 {
         return head;
     }
-    insert_line(head, terms, weights, counts, at, f, amount)
+    insert_line(head, index, terms, weights, counts, at, f, amount)
 }

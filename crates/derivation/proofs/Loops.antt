@@ -11,7 +11,8 @@ use lib.ListN.{length}
 use Rattle.refusal.specs.Refusal.{numberOf}
 use Rattle.refusal.specs.declared.Reason.{Reason}
 use Rattle.configuration.specs.FormLaws.{none-polynomial}
-use Rattle.configuration.specs.Memory.{Memory, memoryOf, linesOf, imageOf, wellFormed}
+use Rattle.configuration.specs.Memory.{Memory, linesOf, imageOf, wellFormed}
+use Rattle.configuration.specs.Index.{indexedOf, Kept}
 use Rattle.configuration.specs.MemoryLaws.{well-formed, formed-image}
 use Rattle.walk.specs.Walk.{nothing, refusedFor, Walked, after, walk}
 use Rattle.walk.proofs.Leads.{Leads, begins, ends, inside, next-leads, unmoved, ends-refused}
@@ -27,16 +28,17 @@ use Rattle.walk.specs.Walk as W
 use Rattle.derivation.specs.declared.Answer.the-variants as Answers
 
 -- what is still to be walked gives the whole
-abbrev pub Walks : ℕ → List ℕ → Walked (W.Progress State) → Progress → List ℕ → List ℕ → List ℕ → List ℤ → List ℕ → Type 0
-Walks n s x p fs us ts ws cs = Ready n p fs us ts ws cs × (p .at ≤ length s) × Leads (checking n) s x (progressOf p fs us ts ws cs)
+abbrev pub Walks : ℕ → List ℕ → Walked (W.Progress State) → Progress → List ℕ → List ℕ → List ℕ → List ℕ → List ℤ → List ℕ → Type 0
+Walks n s x p fs us is ts ws cs = Ready n p fs us is ts ws cs × (p .at ≤ length s) × Leads (checking n) s x (progressOf p fs us is ts ws cs)
 
 -- before the first record
-pub starts : (s : List ℕ) (p : Progress) (fs us ts : List ℕ) (ws : List ℤ) (cs : List ℕ) → T (wellFormed (memoryOf (p .head) ts ws cs))
+pub starts : (s : List ℕ) (p : Progress) (fs us is ts : List ℕ) (ws : List ℤ) (cs : List ℕ) → Kept 128 (p .head) is ts ws cs → T (wellFormed (indexedOf (p .head) is ts ws cs))
     → length fs ≡ 64 → length us ≡ 64 → p .first ≡ 0 → p .work ≡ 0 → p .at ≡ 0 → p .records ≡ 0
-    → Walks (p .head .variables) s (walk (checking (p .head .variables)) (length s) s (progressOf p fs us ts ws cs)) p fs us ts ws cs
-starts s p fs us ts ws cs well l m f g a r =
+    → Walks (p .head .variables) s (walk (checking (p .head .variables)) (length s) s (progressOf p fs us is ts ws cs)) p fs us is ts ws cs
+starts s p fs us is ts ws cs kept well l m f g a r =
     let n : ℕ = p .head .variables in (
       record {
+        kept = kept;
         well = well;
         variables = refl;
         operand = rw f (none-polynomial n);
@@ -48,43 +50,43 @@ starts s p fs us ts ws cs well l m f g a r =
         counted = omega arith;
       },
       omega arith,
-      begins (checking n) s _ (progressOf p fs us ts ws cs) r refl,
+      begins (checking n) s _ (progressOf p fs us is ts ws cs) r refl,
     )
 
 -- the variables stay those of the start
-pub ready-now : (n : ℕ) (p : Progress) (fs us ts : List ℕ) (ws : List ℤ) (cs : List ℕ) → Ready n p fs us ts ws cs → Ready (p .head .variables) p fs us ts ws cs
-ready-now n p fs us ts ws cs ready = subst (λ (k : ℕ). Ready k p fs us ts ws cs) (sym (ready .variables)) ready
+pub ready-now : (n : ℕ) (p : Progress) (fs us is ts : List ℕ) (ws : List ℤ) (cs : List ℕ) → Ready n p fs us is ts ws cs → Ready (p .head .variables) p fs us is ts ws cs
+ready-now n p fs us is ts ws cs ready = subst (λ (k : ℕ). Ready k p fs us is ts ws cs) (sym (ready .variables)) ready
 
--- the areas are the memory of their lines
-held-image : (n : ℕ) (p : Progress) (fs us ts : List ℕ) (ws : List ℤ) (cs : List ℕ) → Ready n p fs us ts ws cs
-    → memoryOf (p .head) ts ws cs ≡ imageOf 128 n (linesOf (memoryOf (p .head) ts ws cs))
-held-image n p fs us ts ws cs ready =
-    let m : Memory = memoryOf (p .head) ts ws cs in
+-- what the areas stand for is the memory of its lines
+held-image : (n : ℕ) (p : Progress) (fs us is ts : List ℕ) (ws : List ℤ) (cs : List ℕ) → Ready n p fs us is ts ws cs
+    → indexedOf (p .head) is ts ws cs ≡ imageOf 128 n (linesOf (indexedOf (p .head) is ts ws cs))
+held-image n p fs us is ts ws cs ready =
+    let m : Memory = indexedOf (p .head) is ts ws cs in
     subst (λ (k : ℕ). m ≡ imageOf 128 k (linesOf m)) (ready .variables) (formed-image 128 m (well-formed m (ready .well)))
 
-module _ (n : ℕ) (s : List ℕ) (x : Walked (W.Progress State)) (p : Progress) (fs us ts : List ℕ) (ws : List ℤ) (cs : List ℕ)
-    (inv : Walks n s x p fs us ts ws cs) where
+module _ (n : ℕ) (s : List ℕ) (x : Walked (W.Progress State)) (p : Progress) (fs us is ts : List ℕ) (ws : List ℤ) (cs : List ℕ)
+    (inv : Walks n s x p fs us is ts ws cs) where
   abbrev begun : W.Progress State
-  begun = progressOf p fs us ts ws cs
+  begun = progressOf p fs us is ts ws cs
 
   -- one record
-  module _ (h : p .at < length s) (r : Step) (fs′ us′ ts′ : List ℕ) (ws′ : List ℤ) (cs′ : List ℕ)
-      (e : left-by fs′ us′ ts′ ws′ cs′ r ≡ after begun (onRecord (p .head .variables) s begun))
-      (ready : Ready (p .head .variables) (r .progress) fs′ us′ ts′ ws′ cs′) where
+  module _ (h : p .at < length s) (r : Step) (fs′ us′ is′ ts′ : List ℕ) (ws′ : List ℤ) (cs′ : List ℕ)
+      (e : left-by fs′ us′ is′ ts′ ws′ cs′ r ≡ after begun (onRecord (p .head .variables) s begun))
+      (ready : Ready (p .head .variables) (r .progress) fs′ us′ is′ ts′ ws′ cs′) where
     abbrev next : W.Progress State
-    next = progressOf (r .progress) fs′ us′ ts′ ws′ cs′
+    next = progressOf (r .progress) fs′ us′ is′ ts′ ws′ cs′
 
-    told : left-by fs′ us′ ts′ ws′ cs′ r ≡ after begun (onRecord n s begun)
+    told : left-by fs′ us′ is′ ts′ ws′ cs′ r ≡ after begun (onRecord n s begun)
     told = rw (inv .0 .variables) at e
 
-    ready′ : Ready n (r .progress) fs′ us′ ts′ ws′ cs′
+    ready′ : Ready n (r .progress) fs′ us′ is′ ts′ ws′ cs′
     ready′ = rw (inv .0 .variables) at ready
 
     module _ (k : r .turn ≡ Accepted) where
       lies : (p .at < r .progress .at) × (r .progress .at ≤ length s) × (r .progress .records ≡ suc (p .records))
       lies = inside (checking n) s begun next (checking-local n) (rw k at told)
 
-      pub goes-on : Walks n s x (r .progress) fs′ us′ ts′ ws′ cs′
+      pub goes-on : Walks n s x (r .progress) fs′ us′ is′ ts′ ws′ cs′
       goes-on = (ready′, lies .1, next-leads (checking n) s begun next (checking-local n) (rw k at told) x (inv .0 .counted) h (inv .2))
 
       pub fewer : length s - r .progress .records < length s - p .records
@@ -94,12 +96,12 @@ module _ (n : ℕ) (s : List ℕ) (x : Walked (W.Progress State)) (p : Progress)
       pub refused-count : r .progress .records < length s
       refused-count = omega (arith, ap (λ (b : W.Progress State). b .records) (unmoved (checking n) s begun next (numberOf reason) (rw k at told)), inv .0 .counted)
 
-      pub refused-there : leftOf (memoryOf (r .progress .head) ts′ ws′ cs′) (Answers.Refused (r .progress .records + 1) reason) ≡ leaves n x
+      pub refused-there : leftOf (indexedOf (r .progress .head) is′ ts′ ws′ cs′) (Answers.Refused (r .progress .records + 1) reason) ≡ leaves n x
       refused-there =
-          ap (λ (m : Memory). leftOf m (Answers.Refused (r .progress .records + 1) reason)) (held-image n (r .progress) fs′ us′ ts′ ws′ cs′ ready′)
+          ap (λ (m : Memory). leftOf m (Answers.Refused (r .progress .records + 1) reason)) (held-image n (r .progress) fs′ us′ is′ ts′ ws′ cs′ ready′)
           ∙ rw (add-one (r .progress .records)) (ap (leaves n) (ends-refused (checking n) s begun next (numberOf reason) (rw k at told) x (inv .0 .counted) h (inv .2)))
 
   -- the end of the bytes
   pub ends-there : length s ≤ p .at → (a : Answer) → toldOf a ≡ verdict begun (cond (p .closed) nothing (refusedFor 15))
-      → leftOf (memoryOf (p .head) ts ws cs) a ≡ leaves n x
-  ends-there h a e = ap (λ (m : Memory). leftOf m a) (held-image n p fs us ts ws cs (inv .0)) ∙ rw e (ap (leaves n) (ends (checking n) s x begun h (inv .2)))
+      → leftOf (indexedOf (p .head) is ts ws cs) a ≡ leaves n x
+  ends-there h a e = ap (λ (m : Memory). leftOf m a) (held-image n p fs us is ts ws cs (inv .0)) ∙ rw e (ap (leaves n) (ends (checking n) s x begun h (inv .2)))

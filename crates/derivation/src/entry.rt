@@ -7,7 +7,6 @@ use calculus::step::step;
 use configuration::Head;
 use configuration::form::none_negative;
 use configuration::table::weight_of;
-use polynomial::load;
 use record::Amount;
 use record::read_amount;
 use refusal::Reason;
@@ -84,8 +83,8 @@ fn accepted(p: Progress, size: usize, chosen: bool, first: usize, work: usize, h
 // N, Z: the mode.
 pub fn on_mode(p: Progress, mode: Mode) -> Step
     requires { ⌜ (p .at < 18446744073709551615) × (p .records ≤ p .at) ⌝ }
-    ensures step { λ r. ⌜ ((fs us ts : List ℕ) (ws : List ℤ) (cs : List ℕ) → Ready (p .head .variables) p fs us ts ws cs → record { reached = progressOf (r .progress) fs us ts ws cs; stop = stopOf (r .turn) } ≡ after (progressOf p fs us ts ws cs) (onMode mode (progressOf p fs us ts ws cs))) ⌝ }
-    ensures ready { λ r. ⌜ ((fs us ts : List ℕ) (ws : List ℤ) (cs : List ℕ) → Ready (p .head .variables) p fs us ts ws cs → Ready (p .head .variables) (r .progress) fs us ts ws cs) ⌝ }
+    ensures step { λ r. ⌜ ((fs us is ts : List ℕ) (ws : List ℤ) (cs : List ℕ) → Ready (p .head .variables) p fs us is ts ws cs → record { reached = progressOf (r .progress) fs us is ts ws cs; stop = stopOf (r .turn) } ≡ after (progressOf p fs us is ts ws cs) (onMode mode (progressOf p fs us is ts ws cs))) ⌝ }
+    ensures ready { λ r. ⌜ ((fs us is ts : List ℕ) (ws : List ℤ) (cs : List ℕ) → Ready (p .head .variables) p fs us is ts ws cs → Ready (p .head .variables) (r .progress) fs us is ts ws cs) ⌝ }
 {
     if p.started {
         return refused(p, Reason::Misplaced);
@@ -111,8 +110,8 @@ pub fn on_mode(p: Progress, mode: Mode) -> Step
 // M: a term is added to the work polynomial.
 pub fn on_term(bytes: &[u8], p: Progress, work: &mut [u32]) -> Step
     requires { ⌜ (p .at < length (now bytes)) × (p .records ≤ p .at) × (length (now work) ≡ 64) × (p .work ≤ 64) × T (isPolynomial (p .head .variables) (take (p .work) (now work))) ⌝ }
-    ensures step { λ r. ⌜ ((fs ts : List ℕ) (ws : List ℤ) (cs : List ℕ) → Ready (p .head .variables) p fs (now (work .entry)) ts ws cs → record { reached = progressOf (r .progress) fs (now (work .exit)) ts ws cs; stop = stopOf (r .turn) } ≡ after (progressOf p fs (now (work .entry)) ts ws cs) (onTerm (p .head .variables) (now (bytes .entry)) (progressOf p fs (now (work .entry)) ts ws cs))) ⌝ }
-    ensures ready { λ r. ⌜ ((fs ts : List ℕ) (ws : List ℤ) (cs : List ℕ) → Ready (p .head .variables) p fs (now (work .entry)) ts ws cs → Ready (p .head .variables) (r .progress) fs (now (work .exit)) ts ws cs) ⌝ }
+    ensures step { λ r. ⌜ ((fs is ts : List ℕ) (ws : List ℤ) (cs : List ℕ) → Ready (p .head .variables) p fs (now (work .entry)) is ts ws cs → record { reached = progressOf (r .progress) fs (now (work .exit)) is ts ws cs; stop = stopOf (r .turn) } ≡ after (progressOf p fs (now (work .entry)) is ts ws cs) (onTerm (p .head .variables) (now (bytes .entry)) (progressOf p fs (now (work .entry)) is ts ws cs))) ⌝ }
+    ensures ready { λ r. ⌜ ((fs is ts : List ℕ) (ws : List ℤ) (cs : List ℕ) → Ready (p .head .variables) p fs (now (work .entry)) is ts ws cs → Ready (p .head .variables) (r .progress) fs (now (work .exit)) is ts ws cs) ⌝ }
 {
     if !is_going(p) {
         return refused(p, Reason::Misplaced);
@@ -141,8 +140,8 @@ fn copy(from: &[u32], count: usize, to: &mut [u32])
 // K: the work polynomial becomes f, and is cleared.
 pub fn on_choice(p: Progress, first: &mut [u32], work: &[u32]) -> Step
     requires { ⌜ (p .at < 18446744073709551615) × (p .records ≤ p .at) × (length (now first) ≡ 64) × (length (now work) ≡ 64) × (p .work ≤ 64) ⌝ }
-    ensures step { λ r. ⌜ ((ts : List ℕ) (ws : List ℤ) (cs : List ℕ) → Ready (p .head .variables) p (now (first .entry)) (now (work .entry)) ts ws cs → record { reached = progressOf (r .progress) (now (first .exit)) (now (work .entry)) ts ws cs; stop = stopOf (r .turn) } ≡ after (progressOf p (now (first .entry)) (now (work .entry)) ts ws cs) (onChoice (progressOf p (now (first .entry)) (now (work .entry)) ts ws cs))) ⌝ }
-    ensures ready { λ r. ⌜ ((ts : List ℕ) (ws : List ℤ) (cs : List ℕ) → Ready (p .head .variables) p (now (first .entry)) (now (work .entry)) ts ws cs → Ready (p .head .variables) (r .progress) (now (first .exit)) (now (work .entry)) ts ws cs) ⌝ }
+    ensures step { λ r. ⌜ ((is ts : List ℕ) (ws : List ℤ) (cs : List ℕ) → Ready (p .head .variables) p (now (first .entry)) (now (work .entry)) is ts ws cs → record { reached = progressOf (r .progress) (now (first .exit)) (now (work .entry)) is ts ws cs; stop = stopOf (r .turn) } ≡ after (progressOf p (now (first .entry)) (now (work .entry)) is ts ws cs) (onChoice (progressOf p (now (first .entry)) (now (work .entry)) is ts ws cs))) ⌝ }
+    ensures ready { λ r. ⌜ ((is ts : List ℕ) (ws : List ℤ) (cs : List ℕ) → Ready (p .head .variables) p (now (first .entry)) (now (work .entry)) is ts ws cs → Ready (p .head .variables) (r .progress) (now (first .exit)) (now (work .entry)) is ts ws cs) ⌝ }
 {
     if !is_going(p) {
         return refused(p, Reason::Misplaced);
@@ -161,14 +160,15 @@ pub fn on_step(
     p: Progress,
     first: &[u32],
     work: &[u32],
+    index: &mut [u64],
     terms: &mut [u32],
     weights: &mut [i64],
     counts: &mut [u32],
     rule: Rule,
 ) -> Step
-    requires { ⌜ (p .at < length (now bytes)) × Ready (p .head .variables) p (now first) (now work) (now terms) (now weights) (now counts) ⌝ }
-    ensures step { λ r. ⌜ record { reached = progressOf (r .progress) (now (first .entry)) (now (work .entry)) (now (terms .exit)) (now (weights .exit)) (now (counts .exit)); stop = stopOf (r .turn) } ≡ after (progressOf p (now (first .entry)) (now (work .entry)) (now (terms .entry)) (now (weights .entry)) (now (counts .entry))) (onStep rule (now (bytes .entry)) (progressOf p (now (first .entry)) (now (work .entry)) (now (terms .entry)) (now (weights .entry)) (now (counts .entry)))) ⌝ }
-    ensures ready { λ r. ⌜ Ready (p .head .variables) (r .progress) (now (first .entry)) (now (work .entry)) (now (terms .exit)) (now (weights .exit)) (now (counts .exit)) ⌝ }
+    requires { ⌜ (p .at < length (now bytes)) × Ready (p .head .variables) p (now first) (now work) (now index) (now terms) (now weights) (now counts) ⌝ }
+    ensures step { λ r. ⌜ record { reached = progressOf (r .progress) (now (first .entry)) (now (work .entry)) (now (index .exit)) (now (terms .exit)) (now (weights .exit)) (now (counts .exit)); stop = stopOf (r .turn) } ≡ after (progressOf p (now (first .entry)) (now (work .entry)) (now (index .entry)) (now (terms .entry)) (now (weights .entry)) (now (counts .entry))) (onStep rule (now (bytes .entry)) (progressOf p (now (first .entry)) (now (work .entry)) (now (index .entry)) (now (terms .entry)) (now (weights .entry)) (now (counts .entry)))) ⌝ }
+    ensures ready { λ r. ⌜ Ready (p .head .variables) (r .progress) (now (first .entry)) (now (work .entry)) (now (index .exit)) (now (terms .exit)) (now (weights .exit)) (now (counts .exit)) ⌝ }
 {
     if !is_going(p) {
         return refused(p, Reason::Misplaced);
@@ -182,11 +182,20 @@ pub fn on_step(
     };
     let m = p.first;
     let n = p.work;
-    let f = load(&first[..m]);
-    let g = load(&work[..n]);
     let head = p.head;
     let mode = p.mode;
-    let stepped = step(head, terms, weights, counts, rule, mode, f, g, amount);
+    let stepped = step(
+        head,
+        index,
+        terms,
+        weights,
+        counts,
+        rule,
+        mode,
+        &first[..m],
+        &work[..n],
+        amount,
+    );
     let left = stepped.head;
     let answer = stepped.answer;
     if let calculus::Answer::Refused(_, reason) = answer {
@@ -235,13 +244,14 @@ pub fn on_claim(
     p: Progress,
     first: &[u32],
     work: &[u32],
+    index: &[u64],
     terms: &[u32],
     weights: &[i64],
     counts: &[u32],
 ) -> Step
-    requires { ⌜ (p .at < length (now bytes)) × Ready (p .head .variables) p (now first) (now work) (now terms) (now weights) (now counts) ⌝ }
-    ensures step { λ r. ⌜ record { reached = progressOf (r .progress) (now (first .entry)) (now (work .entry)) (now (terms .entry)) (now (weights .entry)) (now (counts .entry)); stop = stopOf (r .turn) } ≡ after (progressOf p (now (first .entry)) (now (work .entry)) (now (terms .entry)) (now (weights .entry)) (now (counts .entry))) (onClaim (now (bytes .entry)) (progressOf p (now (first .entry)) (now (work .entry)) (now (terms .entry)) (now (weights .entry)) (now (counts .entry)))) ⌝ }
-    ensures ready { λ r. ⌜ Ready (p .head .variables) (r .progress) (now (first .entry)) (now (work .entry)) (now (terms .entry)) (now (weights .entry)) (now (counts .entry)) ⌝ }
+    requires { ⌜ (p .at < length (now bytes)) × Ready (p .head .variables) p (now first) (now work) (now index) (now terms) (now weights) (now counts) ⌝ }
+    ensures step { λ r. ⌜ record { reached = progressOf (r .progress) (now (first .entry)) (now (work .entry)) (now (index .entry)) (now (terms .entry)) (now (weights .entry)) (now (counts .entry)); stop = stopOf (r .turn) } ≡ after (progressOf p (now (first .entry)) (now (work .entry)) (now (index .entry)) (now (terms .entry)) (now (weights .entry)) (now (counts .entry))) (onClaim (now (bytes .entry)) (progressOf p (now (first .entry)) (now (work .entry)) (now (index .entry)) (now (terms .entry)) (now (weights .entry)) (now (counts .entry)))) ⌝ }
+    ensures ready { λ r. ⌜ Ready (p .head .variables) (r .progress) (now (first .entry)) (now (work .entry)) (now (index .entry)) (now (terms .entry)) (now (weights .entry)) (now (counts .entry)) ⌝ }
 {
     if !is_idle(p) {
         return refused(p, Reason::Misplaced);
@@ -253,11 +263,11 @@ pub fn on_claim(
         return refused(p, Reason::OutOfRange);
     }
     let head = p.head;
-    if !none_negative(head.lines as usize, weights) {
+    if !none_negative(weights) {
         return refused(p, Reason::NegativeLine);
     }
     let one = [0u32];
-    if weight_of(head, terms, weights, counts, &one) < claim {
+    if weight_of(head, index, terms, weights, counts, &one) < claim {
         return refused(p, Reason::ClaimTooHigh);
     }
     closed_with(p, claim)

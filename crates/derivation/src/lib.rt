@@ -5,6 +5,9 @@ use calculus::Mode;
 use calculus::Rule;
 use configuration::Head;
 use configuration::form::well_formed;
+use configuration::index::in_turn;
+use configuration::index::row_at;
+use configuration::index::settle;
 use entry::on_choice;
 use entry::on_claim;
 use entry::on_mode;
@@ -20,7 +23,8 @@ ghost use mathlib.Core.List.{List};
 ghost use Prim.Native.Nat.{ℕ, _<_};
 ghost use lib.Dec.{T};
 ghost use lib.ListN.{length};
-ghost use Rattle.configuration.specs.Memory.{memoryOf, linesIn, wellFormed};
+ghost use Rattle.configuration.specs.Memory.{memoryOf, wellFormed};
+ghost use Rattle.configuration.specs.Index.{indexedOf, linesBy, Kept};
 ghost use Rattle.walk.specs.Walk.{nothing, refusedFor, stopOf, after};
 ghost use Rattle.derivation.specs.Derivation.{onRecord, degreeIn, toldOf, verdict, leftOf, checked, checkDerivation};
 ghost use Rattle.derivation.specs.Held.{progressOf, Ready};
@@ -66,13 +70,14 @@ fn on_record(
     p: Progress,
     first: &mut [u32],
     work: &mut [u32],
+    index: &mut [u64],
     terms: &mut [u32],
     weights: &mut [i64],
     counts: &mut [u32],
 ) -> Step
-    requires { ⌜ (p .at < length (now bytes)) × Ready (p .head .variables) p (now first) (now work) (now terms) (now weights) (now counts) ⌝ }
-    ensures step { λ r. ⌜ record { reached = progressOf (r .progress) (now (first .exit)) (now (work .exit)) (now (terms .exit)) (now (weights .exit)) (now (counts .exit)); stop = stopOf (r .turn) } ≡ after (progressOf p (now (first .entry)) (now (work .entry)) (now (terms .entry)) (now (weights .entry)) (now (counts .entry))) (onRecord (p .head .variables) (now (bytes .entry)) (progressOf p (now (first .entry)) (now (work .entry)) (now (terms .entry)) (now (weights .entry)) (now (counts .entry)))) ⌝ }
-    ensures ready { λ r. ⌜ Ready (p .head .variables) (r .progress) (now (first .exit)) (now (work .exit)) (now (terms .exit)) (now (weights .exit)) (now (counts .exit)) ⌝ }
+    requires { ⌜ (p .at < length (now bytes)) × Ready (p .head .variables) p (now first) (now work) (now index) (now terms) (now weights) (now counts) ⌝ }
+    ensures step { λ r. ⌜ record { reached = progressOf (r .progress) (now (first .exit)) (now (work .exit)) (now (index .exit)) (now (terms .exit)) (now (weights .exit)) (now (counts .exit)); stop = stopOf (r .turn) } ≡ after (progressOf p (now (first .entry)) (now (work .entry)) (now (index .entry)) (now (terms .entry)) (now (weights .entry)) (now (counts .entry))) (onRecord (p .head .variables) (now (bytes .entry)) (progressOf p (now (first .entry)) (now (work .entry)) (now (index .entry)) (now (terms .entry)) (now (weights .entry)) (now (counts .entry)))) ⌝ }
+    ensures ready { λ r. ⌜ Ready (p .head .variables) (r .progress) (now (first .exit)) (now (work .exit)) (now (index .exit)) (now (terms .exit)) (now (weights .exit)) (now (counts .exit)) ⌝ }
 {
     let at = p.at;
     let kind = bytes[at];
@@ -83,13 +88,33 @@ fn on_record(
         return on_choice(p, first, work);
     }
     if kind == b'S' {
-        return on_step(bytes, p, first, work, terms, weights, counts, Rule::Sum);
+        return on_step(
+            bytes,
+            p,
+            first,
+            work,
+            index,
+            terms,
+            weights,
+            counts,
+            Rule::Sum,
+        );
     }
     if kind == b'P' {
-        return on_step(bytes, p, first, work, terms, weights, counts, Rule::Prod);
+        return on_step(
+            bytes,
+            p,
+            first,
+            work,
+            index,
+            terms,
+            weights,
+            counts,
+            Rule::Prod,
+        );
     }
     if kind == b'B' {
-        return on_claim(bytes, p, first, work, terms, weights, counts);
+        return on_claim(bytes, p, first, work, index, terms, weights, counts);
     }
     if kind == b'N' {
         return on_mode(p, Mode::Plain);
@@ -101,25 +126,26 @@ fn on_record(
 }
 
 // The degree of a configuration: that of the first term of its first line, since lines and terms stand in order.
-fn degree_of(head: Head, terms: &[u32], weights: &[i64], counts: &[u32]) -> u32
-    requires { ⌜ T (wellFormed (memoryOf head (now terms) (now weights) (now counts))) ⌝ }
-    ensures { λ r. ⌜ r ≡ degreeIn (linesIn head (now (terms .entry)) (now (weights .entry)) (now (counts .entry))) ⌝ }
+fn degree_of(head: Head, index: &[u64], terms: &[u32], weights: &[i64], counts: &[u32]) -> u32
+    requires { ⌜ Kept 128 head (now index) (now terms) (now weights) (now counts) × T (wellFormed (indexedOf head (now index) (now terms) (now weights) (now counts))) ⌝ }
+    ensures { λ r. ⌜ r ≡ degreeIn (linesBy head (now (index .entry)) (now (terms .entry)) (now (weights .entry)) (now (counts .entry))) ⌝ }
 {
     if head.lines == 0 {
         return 0;
     }
-    degree(terms[0])
+    let first = row_at(index, 0);
+    degree(terms[64 * first])
 }
 
 // The end of the bytes: B must have come.
-fn finish(p: Progress, terms: &[u32], weights: &[i64], counts: &[u32]) -> Answer
-    requires { ⌜ T (wellFormed (memoryOf (p .head) (now terms) (now weights) (now counts))) × (p .records < 18446744073709551615) ⌝ }
-    ensures { λ r. ⌜ ((fs us : List ℕ) → toldOf r ≡ verdict (progressOf p fs us (now (terms .entry)) (now (weights .entry)) (now (counts .entry))) (cond (p .closed) nothing (refusedFor 15))) ⌝ }
+fn finish(p: Progress, index: &[u64], terms: &[u32], weights: &[i64], counts: &[u32]) -> Answer
+    requires { ⌜ Kept 128 (p .head) (now index) (now terms) (now weights) (now counts) × T (wellFormed (indexedOf (p .head) (now index) (now terms) (now weights) (now counts))) × (p .records < 18446744073709551615) ⌝ }
+    ensures { λ r. ⌜ ((fs us : List ℕ) → toldOf r ≡ verdict (progressOf p fs us (now (index .entry)) (now (terms .entry)) (now (weights .entry)) (now (counts .entry))) (cond (p .closed) nothing (refusedFor 15))) ⌝ }
 {
     if !p.closed {
         return Answer::Refused(p.records + 1, Reason::Unfinished);
     }
-    let degree = degree_of(p.head, terms, weights, counts);
+    let degree = degree_of(p.head, index, terms, weights, counts);
     Answer::Confirmed(p.claim, degree)
 }
 
@@ -128,12 +154,14 @@ fn finish(p: Progress, terms: &[u32], weights: &[i64], counts: &[u32]) -> Answer
 fn read_records(
     bytes: &[u8],
     head: Head,
+    index: &mut [u64],
     terms: &mut [u32],
     weights: &mut [i64],
     counts: &mut [u32],
 ) -> Report
-    requires { ⌜ T (wellFormed (memoryOf head (now terms) (now weights) (now counts))) ⌝ }
-    ensures { λ r. ⌜ leftOf (memoryOf (r .head) (now (terms .exit)) (now (weights .exit)) (now (counts .exit))) (r .answer) ≡ checked (now (bytes .entry)) (memoryOf head (now (terms .entry)) (now (weights .entry)) (now (counts .entry))) ⌝ }
+    requires { ⌜ Kept 128 head (now index) (now terms) (now weights) (now counts) × T (wellFormed (indexedOf head (now index) (now terms) (now weights) (now counts))) ⌝ }
+    ensures left { λ r. ⌜ leftOf (indexedOf (r .head) (now (index .exit)) (now (terms .exit)) (now (weights .exit)) (now (counts .exit))) (r .answer) ≡ checked (now (bytes .entry)) (indexedOf head (now (index .entry)) (now (terms .entry)) (now (weights .entry)) (now (counts .entry))) ⌝ }
+    ensures kept { λ r. ⌜ Kept 128 (r .head) (now (index .exit)) (now (terms .exit)) (now (weights .exit)) (now (counts .exit)) ⌝ }
 {
     let mut first = [0u32; 64];
     let mut work = [0u32; 64];
@@ -150,7 +178,16 @@ fn read_records(
         claim: 0,
     };
     while p.at < bytes.len() {
-        let step = on_record(bytes, p, &mut first, &mut work, terms, weights, counts);
+        let step = on_record(
+            bytes,
+            p,
+            &mut first,
+            &mut work,
+            index,
+            terms,
+            weights,
+            counts,
+        );
         let progress = step.progress;
         p = progress;
         let turn = step.turn;
@@ -163,7 +200,7 @@ fn read_records(
         }
     }
     let head = p.head;
-    let answer = finish(p, terms, weights, counts);
+    let answer = finish(p, index, terms, weights, counts);
     Report { head, answer }
 }
 
@@ -199,5 +236,8 @@ pub fn check_derivation(
     if !well_formed(head, terms, weights, counts) {
         return turned_away(head, Reason::IllFormed);
     }
-    read_records(bytes, head, terms, weights, counts)
+    let mut index = in_turn(terms);
+    let report = read_records(bytes, head, &mut index, terms, weights, counts);
+    settle(index, terms, weights, counts);
+    report
 }

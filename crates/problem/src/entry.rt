@@ -6,7 +6,7 @@ use configuration::Verdict;
 use configuration::form::is_term;
 use configuration::replace::add;
 use polynomial::Polynomial;
-use polynomial::load;
+use polynomial::front;
 use record::Amount;
 use record::Byte;
 use record::Clause;
@@ -23,9 +23,8 @@ ghost use Prim.Native.Nat.{ℕ, _+_, _≤_, _<_};
 ghost use lib.Dec.{T};
 ghost use lib.IntN.{ℤ};
 ghost use lib.ListN.{length, take};
-ghost use Rattle.polynomial.specs.Polynomial.{termsOf};
 ghost use Rattle.configuration.specs.Configuration.{add as addTo, isPolynomial};
-ghost use Rattle.configuration.specs.Memory.{linesIn};
+ghost use Rattle.configuration.specs.Index.{linesBy};
 ghost use Rattle.configuration.specs.Replacement.{within};
 ghost use Rattle.walk.specs.Walk.{stopOf, after};
 ghost use Rattle.problem.specs.Problem.{weightFits, folded, onVariables, onTerm, onWeight, onClause};
@@ -71,8 +70,8 @@ fn accepted(p: Progress, size: usize, head: Head, work: usize) -> Step
 // V: the number of variables.
 pub fn on_variables(bytes: &[u8], p: Progress) -> Step
     requires { ⌜ (p .at < length (now bytes)) × (p .records ≤ p .at) ⌝ }
-    ensures step { λ r. ⌜ ((us ts : List ℕ) (ws : List ℤ) (cs : List ℕ) → Ready p us ts ws cs → record { reached = progressOf (r .progress) us ts ws cs; stop = stopOf (r .turn) } ≡ after (progressOf p us ts ws cs) (onVariables (now (bytes .entry)) (progressOf p us ts ws cs))) ⌝ }
-    ensures ready { λ r. ⌜ ((us ts : List ℕ) (ws : List ℤ) (cs : List ℕ) → Ready p us ts ws cs → Ready (r .progress) us ts ws cs) ⌝ }
+    ensures step { λ r. ⌜ ((us is ts : List ℕ) (ws : List ℤ) (cs : List ℕ) → Ready p us is ts ws cs → record { reached = progressOf (r .progress) us is ts ws cs; stop = stopOf (r .turn) } ≡ after (progressOf p us is ts ws cs) (onVariables (now (bytes .entry)) (progressOf p us is ts ws cs))) ⌝ }
+    ensures ready { λ r. ⌜ ((us is ts : List ℕ) (ws : List ℤ) (cs : List ℕ) → Ready p us is ts ws cs → Ready (r .progress) us is ts ws cs) ⌝ }
 {
     if p.started {
         return refused(p, Reason::Misplaced);
@@ -93,8 +92,8 @@ pub fn on_variables(bytes: &[u8], p: Progress) -> Step
 // M: a term is added to the work polynomial.
 pub fn on_term(bytes: &[u8], p: Progress, work: &mut [u32]) -> Step
     requires { ⌜ (p .at < length (now bytes)) × (p .records ≤ p .at) × (length (now work) ≡ 64) × (p .work ≤ 64) × T (isPolynomial (p .head .variables) (take (p .work) (now work))) ⌝ }
-    ensures step { λ r. ⌜ ((ts : List ℕ) (ws : List ℤ) (cs : List ℕ) → Ready p (now (work .entry)) ts ws cs → record { reached = progressOf (r .progress) (now (work .exit)) ts ws cs; stop = stopOf (r .turn) } ≡ after (progressOf p (now (work .entry)) ts ws cs) (onTerm (now (bytes .entry)) (progressOf p (now (work .entry)) ts ws cs))) ⌝ }
-    ensures ready { λ r. ⌜ ((ts : List ℕ) (ws : List ℤ) (cs : List ℕ) → Ready p (now (work .entry)) ts ws cs → Ready (r .progress) (now (work .exit)) ts ws cs) ⌝ }
+    ensures step { λ r. ⌜ ((is ts : List ℕ) (ws : List ℤ) (cs : List ℕ) → Ready p (now (work .entry)) is ts ws cs → record { reached = progressOf (r .progress) (now (work .exit)) is ts ws cs; stop = stopOf (r .turn) } ≡ after (progressOf p (now (work .entry)) is ts ws cs) (onTerm (now (bytes .entry)) (progressOf p (now (work .entry)) is ts ws cs))) ⌝ }
+    ensures ready { λ r. ⌜ ((is ts : List ℕ) (ws : List ℤ) (cs : List ℕ) → Ready p (now (work .entry)) is ts ws cs → Ready (r .progress) (now (work .exit)) is ts ws cs) ⌝ }
 {
     if !p.started {
         return refused(p, Reason::Misplaced);
@@ -112,19 +111,20 @@ pub fn on_term(bytes: &[u8], p: Progress, work: &mut [u32]) -> Step
 fn fold(
     p: Progress,
     size: usize,
-    f: Polynomial,
+    f: &[u32],
     weight: i64,
     left: usize,
     work: &[u32],
+    index: &mut [u64],
     terms: &mut [u32],
     weights: &mut [i64],
     counts: &mut [u32],
 ) -> Step
-    requires { ⌜ Ready p (now work) (now terms) (now weights) (now counts) × T (isPolynomial (p .head .variables) (termsOf f)) × (left ≤ 64) × T (isPolynomial (p .head .variables) (take left (now work))) × T (weightFits weight) × (0 < size) × (p .at + size < 18446744073709551616) ⌝ }
-    ensures step { λ r. ⌜ record { reached = progressOf (r .progress) (now (work .entry)) (now (terms .exit)) (now (weights .exit)) (now (counts .exit)); stop = stopOf (r .turn) } ≡ after (progressOf p (now (work .entry)) (now (terms .entry)) (now (weights .entry)) (now (counts .entry))) (folded (progressOf p (now (work .entry)) (now (terms .entry)) (now (weights .entry)) (now (counts .entry))) size (take left (now (work .entry))) (within (addTo (termsOf f) weight (linesIn (p .head) (now (terms .entry)) (now (weights .entry)) (now (counts .entry)))))) ⌝ }
-    ensures ready { λ r. ⌜ Ready (r .progress) (now (work .entry)) (now (terms .exit)) (now (weights .exit)) (now (counts .exit)) ⌝ }
+    requires { ⌜ Ready p (now work) (now index) (now terms) (now weights) (now counts) × T (isPolynomial (p .head .variables) (now f)) × (left ≤ 64) × T (isPolynomial (p .head .variables) (take left (now work))) × T (weightFits weight) × (0 < size) × (p .at + size < 18446744073709551616) ⌝ }
+    ensures step { λ r. ⌜ record { reached = progressOf (r .progress) (now (work .entry)) (now (index .exit)) (now (terms .exit)) (now (weights .exit)) (now (counts .exit)); stop = stopOf (r .turn) } ≡ after (progressOf p (now (work .entry)) (now (index .entry)) (now (terms .entry)) (now (weights .entry)) (now (counts .entry))) (folded (progressOf p (now (work .entry)) (now (index .entry)) (now (terms .entry)) (now (weights .entry)) (now (counts .entry))) size (take left (now (work .entry))) (within (addTo (now (f .entry)) weight (linesBy (p .head) (now (index .entry)) (now (terms .entry)) (now (weights .entry)) (now (counts .entry)))))) ⌝ }
+    ensures ready { λ r. ⌜ Ready (r .progress) (now (work .entry)) (now (index .exit)) (now (terms .exit)) (now (weights .exit)) (now (counts .exit)) ⌝ }
 {
-    let done = add(p.head, terms, weights, counts, f, weight);
+    let done = add(p.head, index, terms, weights, counts, f, weight);
     let verdict = done.verdict;
     match verdict {
         Verdict::Done => accepted(p, size, done.head, left),
@@ -138,13 +138,14 @@ pub fn on_weight(
     bytes: &[u8],
     p: Progress,
     work: &[u32],
+    index: &mut [u64],
     terms: &mut [u32],
     weights: &mut [i64],
     counts: &mut [u32],
 ) -> Step
-    requires { ⌜ (p .at < length (now bytes)) × Ready p (now work) (now terms) (now weights) (now counts) ⌝ }
-    ensures step { λ r. ⌜ record { reached = progressOf (r .progress) (now (work .entry)) (now (terms .exit)) (now (weights .exit)) (now (counts .exit)); stop = stopOf (r .turn) } ≡ after (progressOf p (now (work .entry)) (now (terms .entry)) (now (weights .entry)) (now (counts .entry))) (onWeight (now (bytes .entry)) (progressOf p (now (work .entry)) (now (terms .entry)) (now (weights .entry)) (now (counts .entry)))) ⌝ }
-    ensures ready { λ r. ⌜ Ready (r .progress) (now (work .entry)) (now (terms .exit)) (now (weights .exit)) (now (counts .exit)) ⌝ }
+    requires { ⌜ (p .at < length (now bytes)) × Ready p (now work) (now index) (now terms) (now weights) (now counts) ⌝ }
+    ensures step { λ r. ⌜ record { reached = progressOf (r .progress) (now (work .entry)) (now (index .exit)) (now (terms .exit)) (now (weights .exit)) (now (counts .exit)); stop = stopOf (r .turn) } ≡ after (progressOf p (now (work .entry)) (now (index .entry)) (now (terms .entry)) (now (weights .entry)) (now (counts .entry))) (onWeight (now (bytes .entry)) (progressOf p (now (work .entry)) (now (index .entry)) (now (terms .entry)) (now (weights .entry)) (now (counts .entry)))) ⌝ }
+    ensures ready { λ r. ⌜ Ready (r .progress) (now (work .entry)) (now (index .exit)) (now (terms .exit)) (now (weights .exit)) (now (counts .exit)) ⌝ }
 {
     if !p.started {
         return refused(p, Reason::Misplaced);
@@ -156,8 +157,8 @@ pub fn on_weight(
         return refused(p, Reason::OutOfRange);
     }
     let count = p.work;
-    let f = load(&work[..count]);
-    fold(p, 9, f, weight, 0, work, terms, weights, counts)
+    let f = &work[..count];
+    fold(p, 9, f, weight, 0, work, index, terms, weights, counts)
 }
 
 // C: a clause is added at a weight; the work polynomial is untouched.
@@ -165,13 +166,14 @@ pub fn on_clause(
     bytes: &[u8],
     p: Progress,
     work: &[u32],
+    index: &mut [u64],
     terms: &mut [u32],
     weights: &mut [i64],
     counts: &mut [u32],
 ) -> Step
-    requires { ⌜ (p .at < length (now bytes)) × Ready p (now work) (now terms) (now weights) (now counts) ⌝ }
-    ensures step { λ r. ⌜ record { reached = progressOf (r .progress) (now (work .entry)) (now (terms .exit)) (now (weights .exit)) (now (counts .exit)); stop = stopOf (r .turn) } ≡ after (progressOf p (now (work .entry)) (now (terms .entry)) (now (weights .entry)) (now (counts .entry))) (onClause (now (bytes .entry)) (progressOf p (now (work .entry)) (now (terms .entry)) (now (weights .entry)) (now (counts .entry)))) ⌝ }
-    ensures ready { λ r. ⌜ Ready (r .progress) (now (work .entry)) (now (terms .exit)) (now (weights .exit)) (now (counts .exit)) ⌝ }
+    requires { ⌜ (p .at < length (now bytes)) × Ready p (now work) (now index) (now terms) (now weights) (now counts) ⌝ }
+    ensures step { λ r. ⌜ record { reached = progressOf (r .progress) (now (work .entry)) (now (index .exit)) (now (terms .exit)) (now (weights .exit)) (now (counts .exit)); stop = stopOf (r .turn) } ≡ after (progressOf p (now (work .entry)) (now (index .entry)) (now (terms .entry)) (now (weights .entry)) (now (counts .entry))) (onClause (now (bytes .entry)) (progressOf p (now (work .entry)) (now (index .entry)) (now (terms .entry)) (now (weights .entry)) (now (counts .entry)))) ⌝ }
+    ensures ready { λ r. ⌜ Ready (r .progress) (now (work .entry)) (now (index .exit)) (now (terms .exit)) (now (weights .exit)) (now (counts .exit)) ⌝ }
 {
     if !p.started {
         return refused(p, Reason::Misplaced);
@@ -194,5 +196,16 @@ pub fn on_clause(
         return refused(p, Reason::TooManyTerms);
     }
     let f = clause.polynomial;
-    fold(p, 17, f, weight, p.work, work, terms, weights, counts)
+    fold(
+        p,
+        17,
+        front(&f.terms, f.count),
+        weight,
+        p.work,
+        work,
+        index,
+        terms,
+        weights,
+        counts,
+    )
 }

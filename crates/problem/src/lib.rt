@@ -3,6 +3,8 @@ mod entry;
 
 use configuration::Head;
 use configuration::blank::blank;
+use configuration::index::in_turn;
+use configuration::index::settle;
 use entry::on_clause;
 use entry::on_term;
 use entry::on_variables;
@@ -17,6 +19,7 @@ ghost use Prim.Native.Nat.{_<_};
 ghost use lib.Dec.{eqb};
 ghost use lib.ListN.{length};
 ghost use Rattle.configuration.specs.Memory.{memoryOf, imageOf};
+ghost use Rattle.configuration.specs.Index.{indexedOf, Kept};
 ghost use Rattle.walk.specs.Walk.{nothing, refusedFor, stopOf, after, readAll};
 ghost use Rattle.problem.specs.Problem.{empty, onRecord, filing, toldOf, verdict, leftOf, leaves, lent, fileProblem};
 ghost use Rattle.problem.specs.Held.{progressOf, Ready};
@@ -54,13 +57,14 @@ fn on_record(
     bytes: &[u8],
     p: Progress,
     work: &mut [u32],
+    index: &mut [u64],
     terms: &mut [u32],
     weights: &mut [i64],
     counts: &mut [u32],
 ) -> Step
-    requires { ⌜ (p .at < length (now bytes)) × Ready p (now work) (now terms) (now weights) (now counts) ⌝ }
-    ensures step { λ r. ⌜ record { reached = progressOf (r .progress) (now (work .exit)) (now (terms .exit)) (now (weights .exit)) (now (counts .exit)); stop = stopOf (r .turn) } ≡ after (progressOf p (now (work .entry)) (now (terms .entry)) (now (weights .entry)) (now (counts .entry))) (onRecord (now (bytes .entry)) (progressOf p (now (work .entry)) (now (terms .entry)) (now (weights .entry)) (now (counts .entry)))) ⌝ }
-    ensures ready { λ r. ⌜ Ready (r .progress) (now (work .exit)) (now (terms .exit)) (now (weights .exit)) (now (counts .exit)) ⌝ }
+    requires { ⌜ (p .at < length (now bytes)) × Ready p (now work) (now index) (now terms) (now weights) (now counts) ⌝ }
+    ensures step { λ r. ⌜ record { reached = progressOf (r .progress) (now (work .exit)) (now (index .exit)) (now (terms .exit)) (now (weights .exit)) (now (counts .exit)); stop = stopOf (r .turn) } ≡ after (progressOf p (now (work .entry)) (now (index .entry)) (now (terms .entry)) (now (weights .entry)) (now (counts .entry))) (onRecord (now (bytes .entry)) (progressOf p (now (work .entry)) (now (index .entry)) (now (terms .entry)) (now (weights .entry)) (now (counts .entry)))) ⌝ }
+    ensures ready { λ r. ⌜ Ready (r .progress) (now (work .exit)) (now (index .exit)) (now (terms .exit)) (now (weights .exit)) (now (counts .exit)) ⌝ }
 {
     let at = p.at;
     let kind = bytes[at];
@@ -71,10 +75,10 @@ fn on_record(
         return on_term(bytes, p, work);
     }
     if kind == b'W' {
-        return on_weight(bytes, p, work, terms, weights, counts);
+        return on_weight(bytes, p, work, index, terms, weights, counts);
     }
     if kind == b'C' {
-        return on_clause(bytes, p, work, terms, weights, counts);
+        return on_clause(bytes, p, work, index, terms, weights, counts);
     }
     refused(p, Reason::Misplaced)
 }
@@ -97,12 +101,14 @@ fn finish(p: Progress) -> Answer
 fn read_records(
     bytes: &[u8],
     head: Head,
+    index: &mut [u64],
     terms: &mut [u32],
     weights: &mut [i64],
     counts: &mut [u32],
 ) -> Report
-    requires { ⌜ memoryOf head (now terms) (now weights) (now counts) ≡ imageOf 128 0 [] ⌝ }
-    ensures { λ r. ⌜ leftOf (memoryOf (r .head) (now (terms .exit)) (now (weights .exit)) (now (counts .exit))) (r .answer) ≡ leaves (readAll filing (now (bytes .entry)) empty) ⌝ }
+    requires { ⌜ Kept 128 head (now index) (now terms) (now weights) (now counts) × (indexedOf head (now index) (now terms) (now weights) (now counts) ≡ imageOf 128 0 []) ⌝ }
+    ensures left { λ r. ⌜ leftOf (indexedOf (r .head) (now (index .exit)) (now (terms .exit)) (now (weights .exit)) (now (counts .exit))) (r .answer) ≡ leaves (readAll filing (now (bytes .entry)) empty) ⌝ }
+    ensures kept { λ r. ⌜ Kept 128 (r .head) (now (index .exit)) (now (terms .exit)) (now (weights .exit)) (now (counts .exit)) ⌝ }
 {
     let mut work = [0u32; 64];
     let mut p = Progress {
@@ -113,7 +119,7 @@ fn read_records(
         work: 0,
     };
     while p.at < bytes.len() {
-        let step = on_record(bytes, p, &mut work, terms, weights, counts);
+        let step = on_record(bytes, p, &mut work, index, terms, weights, counts);
         let progress = step.progress;
         p = progress;
         let turn = step.turn;
@@ -162,5 +168,8 @@ pub fn file_problem(
         return turned_away();
     }
     let head = blank(terms, weights, counts);
-    read_records(bytes, head, terms, weights, counts)
+    let mut index = in_turn(terms);
+    let report = read_records(bytes, head, &mut index, terms, weights, counts);
+    settle(index, terms, weights, counts);
+    report
 }

@@ -3,7 +3,7 @@ pub mod table;
 
 use table::byte_degrees;
 ghost use mathlib.Core.Path.{_≡_};
-ghost use Prim.Native.Nat.{_<_, _≤_};
+ghost use Prim.Native.Nat.{_<_, _≤_, _^_};
 ghost use lib.Count.{ones};
 ghost use lib.ListN.{length};
 ghost use Rattle.term.specs.Term.{degreeOf, before, keyOf, keysWith, byteDegrees};
@@ -46,12 +46,23 @@ pub fn precedes_by(table: &[u8; 256], a: u32, b: u32) -> bool
     key_by(table, b) < key_by(table, a)
 }
 
-// One number for a term, degree * 2^32 + mask: its descending order is the written order.
-fn key_by(table: &[u8; 256], mask: u32) -> u64
+// One number for a term, degree * 2^32 + mask: its descending order is the written order. It is for this crate and
+// configuration, which take the table once for many terms.
+pub fn key_by(table: &[u8; 256], mask: u32) -> u64
     requires { ⌜ now table ≡ byteDegrees ⌝ }
-    ensures { λ r. ⌜ r ≡ keyOf mask ⌝ }
+    ensures exact { λ r. ⌜ r ≡ keyOf mask ⌝ }
+    ensures small { λ r. ⌜ r < 2 ^ 38 ⌝ }
 {
     (degree_by(table, mask) as u64) * 4294967296 + (mask as u64)
+}
+
+// The same number, of a single term.
+pub fn key(mask: u32) -> u64
+    ensures exact { λ r. ⌜ r ≡ keyOf mask ⌝ }
+    ensures small { λ r. ⌜ r < 2 ^ 38 ⌝ }
+{
+    let table = byte_degrees();
+    key_by(&table, mask)
 }
 
 // Writes the keys of the products of a term with each term of a run. It is for the crate polynomial alone,

@@ -1,5 +1,6 @@
--- `check_derivation` meets its contract: the areas are tested in the definition's order, and nothing is written where they are refused.
-use mathlib.Core.Path.{sym, ap, _∙_}
+-- `check_derivation` meets its contract: the areas are tested in the definition's order, and nothing is written where they are refused; the records are read
+-- through the index in turn, which stands for the areas themselves, and the rows that they leave are put in turn.
+use mathlib.Core.Path.{_≡_, sym, ap, subst, _∙_}
 use mathlib.Core.List.{List}
 use Prim.Native.Nat.{ℕ}
 use lib.Dec.{T}
@@ -9,7 +10,9 @@ use borrow.Author.Needs.{needs}
 use Rattle.run.specs.Boolean.{of-true}
 use Rattle.configuration.specs.FormLaws.{sized-not, sized-is}
 use Rattle.configuration.specs.Memory.{Memory, memoryOf, wellFormed}
-use Rattle.derivation.specs.Derivation.{Left, leftOf}
+use Rattle.configuration.specs.Index.{indexedOf}
+use Rattle.configuration.specs.TurnLaws.{turn-memory, turn-kept}
+use Rattle.derivation.specs.Derivation.{Left, leftOf, checked}
 use Rattle.derivation.specs.DerivationLaws.{check-refused-1, check-refused-2, check-is}
 use Rattle.derivation.specs.declared.Report.{Report}
 use Rattle.derivation.proofs.check_derivation.Statement.{statement}
@@ -80,8 +83,25 @@ returns-4 c =
     (c .before .before .before .before .before .before .if3 .left)))
     (sym (c .before .before .well-formed .ensures) ∙ not-true (c .before .before .well-formed .result) (c .before .if4 .taken)))
 
+in-turn-requires : tie.Need-in-turn-requires
+in-turn-requires c κs = search needs
+
+slice-aggregate-read-records : tie.Need-slice-aggregate-read-records
+slice-aggregate-read-records c = search needs
+
 read-records-requires : tie.Need-read-records-requires
-read-records-requires c κs = well (c .before .before .before)
+read-records-requires c κs =
+    let a = c .before .before .before .before .before .before .before .before .before .before .before .before .before .before .before .before .before .args in
+    let w = well (c .before .before .before .before .before .before) in
+    rw (c .before .before .before .before .in-turn .ensures) (
+      turn-kept (a .head) (now (a .terms)) (now (a .weights)) (now (a .counts)) w,
+      subst (λ (m : Memory). T (wellFormed m)) (sym (turn-memory (a .head) (now (a .terms)) (now (a .weights)) (now (a .counts)) w)) w,
+    )
+
+settle-requires : tie.Need-settle-requires
+settle-requires c κs =
+    let k = c .before .before .before .before .before .before .before .before .before .read-records .ensures .1 in
+    (k .once, k .terms-length, k .weights-length, k .counts-length)
 
 same-length-4 : tie.Need-same-length-4
 same-length-4 c = search needs
@@ -94,9 +114,15 @@ same-length-6 c = search needs
 
 returns-5 : tie.Need-returns-5
 returns-5 c =
-    let s = c .before .before .before .before .before .before .before .before .before .before .before .before .before .before .before .before .before .before .before .before in
-    c .before .before .before .before .before .read-records .ensures ∙ sym
-    (check-is (bytes s) (memory s) (well (c .before .before .before .before .before .before .before .before .before)))
+    let r = c .before .before .before .before .before .before .before .before .before .before .before .before .before .before .before in
+    let i = r .before .before .before .before .before in
+    let s = i .before .before .before .before .before .before .before .before .before .before .before .before .before in
+    let a = s .args in
+    let w = well (i .before .before) in
+    let e = c .before .before .before .before .before .settle .ensures in
+    let t : indexedOf (a .head) (i .in-turn .result) (now (a .terms)) (now (a .weights)) (now (a .counts)) ≡ memory s =
+    rw (i .in-turn .ensures) (turn-memory (a .head) (now (a .terms)) (now (a .weights)) (now (a .counts)) w) in
+    rw (e .0, e .1, e .2) (r .read-records .ensures .0 ∙ ap (checked (bytes s)) t ∙ sym (check-is (bytes s) (memory s) w))
 
 pub check-derivation-spec : {M : Type 1} → statement M
 check-derivation-spec =
@@ -114,7 +140,10 @@ check-derivation-spec =
     same-length-2
     same-length-3
     returns-4
+    in-turn-requires
+    slice-aggregate-read-records
     read-records-requires
+    settle-requires
     same-length-4
     same-length-5
     same-length-6

@@ -1,41 +1,56 @@
--- `degree_of` meets its contract: the first number of the term area has the largest degree.
+-- `degree_of` meets its contract: the first number of the first line's row has the largest degree.
 use mathlib.Core.Path.{_∙_}
-use Prim.Native.Nat.{_-_}
 use native.Mathlib.Omega.{arith}
-use lib.ListN.{length}
 use denote.Ref.{now}
 use borrow.Author.Needs.{needs}
-use Rattle.run.specs.Boolean.{left}
-use Rattle.configuration.specs.Memory.{memoryOf}
-use Rattle.configuration.specs.MemoryLaws.{formed-parts}
-use Rattle.calculus.proofs.Steps.{table-formed}
-use Rattle.derivation.proofs.Degrees.{no-lines, some-lines}
+use Rattle.configuration.specs.Index.{indexedOf, arranged}
+use Rattle.configuration.specs.MemoryLaws.{well-formed, formed-parts}
+use Rattle.derivation.proofs.Degrees.{no-lines, some-lines, first-within, first-term}
 use Rattle.derivation.proofs.degree_of.Statement.{statement}
 use Rattle.derivation.proofs.degree_of.Tie as tie
 
 returns : tie.Need-returns
 returns c =
-    let a = c .before .before .before .before .args in
-    no-lines (a .head .variables) (now (a .terms)) (now (a .weights)) (now (a .counts)) (a .head .lines) (c .if1 .taken)
+    let a = c .before .before .before .before .before .args in
+    let is = now (a .index) in
+    no-lines (a .head .variables) (arranged 64 is (now (a .terms))) (arranged 1 is (now (a .weights))) (arranged 1 is (now (a .counts))) (a .head .lines) (c .if1 .taken)
+
+row-at-requires : tie.Need-row-at-requires
+row-at-requires c κs = omega (arith, c .before .before .before .before .before .pre .0 .entries)
+
+mul-degree : tie.Need-mul-degree
+mul-degree c = search needs
+
+mul-degree-2 : tie.Need-mul-degree-2
+mul-degree-2 c = search needs
 
 shared-slice-read-degree : tie.Need-shared-slice-read-degree
 shared-slice-read-degree c =
-    let s = c .before .before .before .before .before in
+    let s = c .before .before .before .before .before .before .before in
     let a = s .args in
-    let m = memoryOf (a .head) (now (a .terms)) (now (a .weights)) (now (a .counts)) in
-    let f = formed-parts (length (now (a .counts))) m (table-formed m (s .pre)) in
-    omega (arith, f .terms-length, f .room, c .before .if1 .left)
+    rw (c .before .row-at .ensures) (first-within (a .head) (now (a .index)) (now (a .terms)) (now (a .weights)) (now (a .counts)) (s .pre .0))
 
 degree-requires : tie.Need-degree-requires
 degree-requires c κs = search needs
 
 returns-2 : tie.Need-returns-2
 returns-2 c =
-    let s = c .before .before .before .before .before .before in
+    let s = c .before .before .before .before .before .before .before .before in
     let a = s .args in
-    let m = memoryOf (a .head) (now (a .terms)) (now (a .weights)) (now (a .counts)) in
-    c .degree .ensures ∙ some-lines (a .head .variables) (now (a .terms)) (now (a .weights)) (now (a .counts)) (a .head .lines) (c .before .before .if1 .left)
-    (formed-parts (length (now (a .counts))) m (table-formed m (s .pre)) .fit)
+    let is = now (a .index) in
+    let m = indexedOf (a .head) is (now (a .terms)) (now (a .weights)) (now (a .counts)) in
+    c .degree .ensures ∙ rw (c .before .before .row-at .ensures, first-term (a .head) is (now (a .terms)) (now (a .weights)) (now (a .counts)) (s .pre .0))
+    (some-lines (a .head .variables) (m .terms) (m .weights) (m .counts) (a .head .lines) (c .before .before .before .if1 .left)
+    (formed-parts 128 m (well-formed m (s .pre .1)) .fit))
 
 pub degree-of-spec : {M : Type 1} → statement M
-degree-of-spec = tie.close (tie.spec returns shared-slice-read-degree degree-requires returns-2)
+degree-of-spec =
+    tie.close
+    (tie.spec
+    returns
+    row-at-requires
+    mul-degree
+    mul-degree-2
+    shared-slice-read-degree
+    degree-requires
+    returns-2)

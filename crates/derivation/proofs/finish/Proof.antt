@@ -10,12 +10,12 @@ use Rattle.derivation.specs.Derivation.{confirmed}
 use Rattle.derivation.proofs.finish.Statement.{statement}
 use Rattle.derivation.proofs.finish.Tie as tie
 
-add-t7 : tie.Need-add-t7
-add-t7 c = search needs
+add-t8 : tie.Need-add-t8
+add-t8 c = search needs
 
 returns : tie.Need-returns
 returns c fs us =
-    let p = c .before .before .before .before .before .args .p in
+    let p = c .before .before .before .before .before .before .args .p in
     rw (not-true (p .closed) (c .before .if1 .taken), add-one (p .records))
 
 degree-of-requires : tie.Need-degree-of-requires
@@ -23,9 +23,9 @@ degree-of-requires c κs = search needs
 
 returns-2 : tie.Need-returns-2
 returns-2 c fs us =
-    let p = c .before .before .before .before .before .before .args .p in
+    let p = c .before .before .before .before .before .before .before .args .p in
     rw (not-false (p .closed) (c .before .before .if1 .left), toZ-ofZ {w = w64} {z = p .claim} (record { sfits = search needs }))
     (ap (λ (d : ℕ). confirmed (p .claim) d) (c .before .degree-of .ensures))
 
 pub finish-spec : {M : Type 1} → statement M
-finish-spec = tie.close (tie.spec add-t7 returns degree-of-requires returns-2)
+finish-spec = tie.close (tie.spec add-t8 returns degree-of-requires returns-2)

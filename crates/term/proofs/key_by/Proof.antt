@@ -19,7 +19,7 @@ add-result c = search needs
 
 returns : tie.Need-returns
 unfolding keyOf
-returns c = omega arith
+returns c = (omega arith, omega arith)
 
 pub key-by-spec : {M : Type 1} → statement M
 key-by-spec = tie.close (tie.spec degree-by-requires cast-result mul-result add-result returns)

@@ -51,7 +51,7 @@ loop-again c =
       omega arith,
       simp length-set (l .inv .1),
       l .inv .2,
-      fill-more (λ u. keyOf (bitOr (a .term) u)) (a .terms .now) (l .out) (l .i) (c .key-by .result) (omega arith) (omega arith) (c .key-by .ensures) (l .inv .3),
+      fill-more (λ u. keyOf (bitOr (a .term) u)) (a .terms .now) (l .out) (l .i) (c .key-by .result) (omega arith) (omega arith) (c .key-by .ensures .0) (l .inv .3),
     )
 
 same-length : tie.Need-same-length Inv-loop μ-loop

@@ -15,7 +15,7 @@ key-by-requires-2 c κs = search needs
 returns : tie.Need-returns
 returns c =
     let s = c .before .before in
-    ap₂ ltb (c .before .key-by .ensures) (c .key-by2 .ensures) ∙ sym (key-before (s .args .a) (s .args .b) (s .fits .a .fits) (s .fits .b .fits))
+    ap₂ ltb (c .before .key-by .ensures .0) (c .key-by2 .ensures .0) ∙ sym (key-before (s .args .a) (s .args .b) (s .fits .a .fits) (s .fits .b .fits))
 
 pub precedes-by-spec : {M : Type 1} → statement M
 precedes-by-spec = tie.close (tie.spec key-by-requires key-by-requires-2 returns)

@@ -1,65 +1,271 @@
--- `plan_sum` meets its contract: a result of more than 64 terms does not fit, and the polynomials and amounts of the others are the rule's.
-use mathlib.Core.Path.{sym}
-use mathlib.Core.Bool.{true≢false}
+-- `plan_sum` meets its contract: a result of more than 64 terms does not fit, and otherwise the table has the four changes of the rule, one after another.
+use mathlib.Core.Path.{_≡_, refl, sym, _∙_}
+use mathlib.Core.Bool.{true}
 use mathlib.Core.List.{List}
 use Prim.Native.Nat.{ℕ}
+use native.Mathlib.Omega.{arith}
+use lib.Dec.{T}
+use lib.IntN.{ℤ, pos, _+ℤ_, _-ℤ_, negℤ}
+use lib.ListN.{take}
+use denote.Ref.{now}
+use mir.Syntax.{w64}
+use mir.Val.{toZ, ofZ}
 use mir.Facts.{toZ-ofZ}
 use borrow.Author.Needs.{needs}
-use Rattle.polynomial.specs.Polynomial.{sumOf, productOf, termsOf}
-use Rattle.configuration.specs.Configuration.{negated}
-use Rattle.configuration.specs.Replacement.{changesOf}
-use Rattle.calculus.specs.Calculus.{allShort}
-use Rattle.calculus.proofs.Plans.{negated-fits, negated-back, doubled-fits, long, short, terms-are}
+use Rattle.run.specs.Boolean.{of-true}
+use Rattle.polynomial.specs.Polynomial.{sumOf, productOf}
+use Rattle.configuration.specs.Configuration.{Line, Every, isPolynomial, negated}
+use Rattle.configuration.specs.FormLaws.{polynomial-short}
+use Rattle.configuration.specs.Replacement.{Small}
+use Rattle.configuration.specs.TurnLaws.{empty}
+use Rattle.configuration.specs.declared.Head.{Head}
+use Rattle.calculus.specs.Calculus.{conclusions, changes, allShort}
+use Rattle.calculus.specs.CalculusLaws.{changes-fit}
+use Rattle.calculus.specs.declared.Rule.the-variants.{Sum}
+use Rattle.calculus.proofs.Plans.{negated-fits, negated-is, doubled-fits, doubled-is, small-changes, long, short, terms-are, Folded, folded-none, fold-asked, fold-given, made-unfit}
 use Rattle.calculus.proofs.plan.plan_sum.Statement.{statement}
 use Rattle.calculus.proofs.plan.plan_sum.Tie as tie
 
-sum-requires : tie.Need-sum-requires
-sum-requires c κs = search needs
+-- ---- the operands, and the changes of the rule
+abbrev left : tie.Start → List ℕ
+left s = now (s .args .f)
 
-product-requires : tie.Need-product-requires
-product-requires c κs = search needs
+abbrev right : tie.Start → List ℕ
+right s = now (s .args .g)
+
+abbrev changed : tie.Start → List Line
+changed s = changes Sum (left s) (right s) (s .args .amount)
+
+small : (s : tie.Start) → Small 42 (changed s)
+small s = small-changes Sum (left s) (right s) (s .args .amount) (s .pre .1)
+
+-- an amount as the code has it
+gained : (s : tie.Start) → toZ w64 (ofZ w64 (s .args .amount)) ≡ s .args .amount
+gained s = toZ-ofZ (s .fits .amount)
+
+lost : (s : tie.Start) → toZ w64 (ofZ w64 (pos 0 -ℤ toZ w64 (ofZ w64 (s .args .amount)))) ≡ negℤ (s .args .amount)
+lost s = negated-is (s .args .amount) (s .pre .1) _ (gained s)
+
+doubled : (s : tie.Start)
+    → toZ w64 (ofZ w64 (toZ w64 (ofZ w64 (s .args .amount)) +ℤ toZ w64 (ofZ w64 (s .args .amount)))) ≡ s .args .amount +ℤ s .args .amount
+doubled s = doubled-is (s .args .amount) (s .pre .1) _ (gained s)
+
+-- a table that has the first changes
+abbrev Has : tie.Start → ℕ → Head → List ℕ → List ℕ → List ℤ → List ℕ → Type 0
+Has s k = Folded (s .args .variables) (take k (changed s))
+
+none : (s : tie.Start) → (let a = s .args in Has s 0 (empty (a .variables)) (now (a .index)) (now (a .terms)) (now (a .weights)) (now (a .counts)))
+none s =
+    let a = s .args in
+    let p = s .pre in
+    folded-none (a .variables) (now (a .index)) (now (a .terms)) (now (a .weights)) (now (a .counts)) (p .0) (p .4) (p .5) (p .6) (p .7)
+
+-- ---- where both results are short enough
+abbrev begun : tie.Else2 → tie.Start
+begun c = c .before .before .before .before .before .before .before .before .before
+
+fits : (c : tie.Else2) → allShort (conclusions Sum (left (begun c)) (right (begun c)) (begun c .args .amount)) ≡ true
+unfolding allShort
+fits c =
+    let s = begun c in
+    let k = c .before .before .before .sum-of in
+    let m = c .before .before .product-of in
+    let e = short (k .result) (sumOf (left s) (right s)) (k .ensures) (c .before .if1 .left) in
+    let d = short (m .result) (productOf (left s) (right s)) (m .ensures) (c .if2 .left) in
+    rw (e, d)
+
+polynomials : (c : tie.Else2) → Every (λ p. T (isPolynomial (begun c .args .variables) p)) (changed (begun c))
+polynomials c =
+    let s = begun c in
+    changes-fit Sum (left s) (right s) (s .args .amount) (s .args .variables) (s .pre .2) (s .pre .3) (of-true (fits c))
+
+-- ---- the table after each change
+abbrev at-one : tie.After-fold-in → tie.Else2
+at-one c = c .before .before .before .before .before
+
+one : (c : tie.After-fold-in)
+    → (let r = c .fold-in in Has (begun (at-one c)) 1 (r .result) (r .last .1 .0) (r .last .1 .1 .0) (r .last .1 .1 .1 .0) (r .last .1 .1 .1 .1 .0))
+unfolding negated
+one c =
+    let s = begun (at-one c) in
+    fold-given (none s) (omega arith) refl (lost s) (s .pre .2) (small s .0) (c .fold-in .ensures)
+
+abbrev past-one : tie.After-fold-in2 → tie.After-fold-in
+past-one c = c .before .before .before .before .before .before .before .before .before .before .before .before
+
+abbrev at-two : tie.After-fold-in2 → tie.Else2
+at-two c = at-one (past-one c)
+
+two : (c : tie.After-fold-in2)
+    → (let r = c .fold-in2 in Has (begun (at-two c)) 2 (r .result) (r .last .1 .0) (r .last .1 .1 .0) (r .last .1 .1 .1 .0) (r .last .1 .1 .1 .1 .0))
+unfolding negated
+two c =
+    let s = begun (at-two c) in
+    fold-given (one (past-one c)) (omega arith) refl (lost s) (s .pre .3) (small s .1 .0) (c .fold-in2 .ensures)
+
+-- the third is of the sum, and the fourth of the product
+abbrev past-two : tie.After-front → tie.After-fold-in2
+past-two c = c .before .before .before .before .before .before .before .before .before .before .before
+
+sum-is : (c : tie.After-front) → (let s = begun (at-two (past-two c)) in now (c .front .result) ≡ sumOf (left s) (right s))
+sum-is c =
+    let k = at-two (past-two c) in
+    let s = begun k in
+    let r = k .before .before .before .sum-of in
+    c .front .ensures ∙ terms-are (r .result) (sumOf (left s) (right s)) (r .ensures) (k .before .if1 .left)
+
+abbrev at-three : tie.After-fold-in3 → tie.Else2
+at-three c = at-two (past-two (c .before .before .before .before .before))
+
+three : (c : tie.After-fold-in3)
+    → (let r = c .fold-in3 in Has (begun (at-three c)) 3 (r .result) (r .last .1 .0) (r .last .1 .1 .0) (r .last .1 .1 .1 .0) (r .last .1 .1 .1 .1 .0))
+unfolding negated
+three c =
+    let h = c .before .before .before .before .before in
+    let k = at-three c in
+    let s = begun k in
+    fold-given (two (past-two h)) (omega arith) (sum-is h) (gained s) (polynomials k .1 .1 .0) (small s .1 .1 .0) (c .fold-in3 .ensures)
+
+abbrev past-three : tie.After-front2 → tie.After-fold-in3
+past-three c = c .before .before .before .before .before .before .before .before .before .before .before
+
+product-is : (c : tie.After-front2) → (let s = begun (at-three (past-three c)) in now (c .front2 .result) ≡ productOf (left s) (right s))
+product-is c =
+    let k = at-three (past-three c) in
+    let s = begun k in
+    let r = k .before .before .product-of in
+    c .front2 .ensures ∙ terms-are (r .result) (productOf (left s) (right s)) (r .ensures) (k .if2 .left)
+
+abbrev at-four : tie.After-fold-in4 → tie.Else2
+at-four c = at-three (past-three (c .before .before .before .before .before))
+
+four : (c : tie.After-fold-in4)
+    → (let r = c .fold-in4 in Has (begun (at-four c)) 4 (r .result) (r .last .1 .0) (r .last .1 .1 .0) (r .last .1 .1 .1 .0) (r .last .1 .1 .1 .1 .0))
+unfolding negated
+four c =
+    let h = c .before .before .before .before .before in
+    let k = at-four c in
+    let s = begun k in
+    fold-given (three (past-three h)) (omega arith) (product-is h) (doubled s) (polynomials k .1 .1 .1 .0) (small s .1 .1 .1 .0) (c .fold-in4 .ensures)
+
+abbrev last : tie.After-slice-known15 → tie.After-fold-in4
+last c = c .before .before .before .before .before .before .before
+
+sum-of-requires : tie.Need-sum-of-requires
+sum-of-requires c κs =
+    let s = c .before .before .before .before .before in
+    (polynomial-short (s .args .variables) (left s) (s .pre .2), polynomial-short (s .args .variables) (right s) (s .pre .3))
+
+product-of-requires : tie.Need-product-of-requires
+product-of-requires c κs =
+    let s = c .before .before .before .before .before .before in
+    (polynomial-short (s .args .variables) (left s) (s .pre .2), polynomial-short (s .args .variables) (right s) (s .pre .3))
+
+unfit-requires : tie.Need-unfit-requires
+unfit-requires c κs = search needs
 
 returns : tie.Need-returns
 unfolding allShort
 returns c =
-    let a = c .before .before .before .before .args in
-    let k = c .before .before .before .sum in
-    (rw (long (k .result) (sumOf (termsOf (a .f)) (termsOf (a .g))) (k .ensures) (c .if1 .taken)), λ z. absurd (true≢false (sym z)))
+    let s = c .before .before .before .before .before .before .before .before .before in
+    let k = c .before .before .before .sum-of in
+    let e = long (k .result) (sumOf (left s) (right s)) (k .ensures) (c .before .if1 .taken) in
+    made-unfit Sum (left s) (right s) (s .args .amount) (c .unfit .result) (none s) (c .unfit .ensures) (rw e)
+
+unfit-requires-2 : tie.Need-unfit-requires-2
+unfit-requires-2 c κs = search needs
 
 returns-2 : tie.Need-returns-2
 unfolding allShort
 returns-2 c =
-    let a = c .before .before .before .before .before .before .args in
-    let f : List ℕ = termsOf (a .f) in
-    let g : List ℕ = termsOf (a .g) in
-    let k = c .before .before .before .before .before .sum in
-    let m = c .before .before .before .before .product in
-    let e = short (k .result) (sumOf f g) (k .ensures) (c .before .before .if1 .left) in
-    let d = long (m .result) (productOf f g) (m .ensures) (c .if2 .taken) in
-    (rw (e, d), λ z. absurd (true≢false (sym z)))
+    let s = c .before .before .before .before .before .before .before .before .before .before in
+    let k = c .before .before .before .before .sum-of in
+    let m = c .before .before .before .product-of in
+    let e = short (k .result) (sumOf (left s) (right s)) (k .ensures) (c .before .before .if1 .left) in
+    let d = long (m .result) (productOf (left s) (right s)) (m .ensures) (c .before .if2 .taken) in
+    made-unfit Sum (left s) (right s) (s .args .amount) (c .unfit2 .result) (none s) (c .unfit2 .ensures) (rw (e, d))
 
-sub-lost : tie.Need-sub-lost
-sub-lost c = let s = c .before .before .before .before .before .before .before .before in rw (toZ-ofZ (s .fits .amount)) (negated-fits (s .args .amount) (s .pre))
+sub-fold-in : tie.Need-sub-fold-in
+sub-fold-in c = let s = begun (c .before .before .before .before) in rw (gained s) (negated-fits (s .args .amount) (s .pre .1))
+
+fold-in-requires : tie.Need-fold-in-requires
+unfolding negated
+fold-in-requires c κs =
+    let s = begun (c .before .before .before .before) in
+    fold-asked (none s) (omega arith) refl (lost s) (s .pre .2) (small s .0)
+
+sub-fold-in-2 : tie.Need-sub-fold-in-2
+sub-fold-in-2 c = let s = begun (at-one (c .before .before .before .before .before .before .before .before .before .before .before)) in rw (gained s) (negated-fits (s .args .amount) (s .pre .1))
+
+fold-in-requires-2 : tie.Need-fold-in-requires-2
+unfolding negated
+fold-in-requires-2 c κs =
+    let o = c .before .before .before .before .before .before .before .before .before .before .before in
+    let s = begun (at-one o) in
+    fold-asked (one o) (omega arith) refl (lost s) (s .pre .3) (small s .1 .0)
+
+front-requires : tie.Need-front-requires
+front-requires c κs = search needs
+
+fold-in-requires-3 : tie.Need-fold-in-requires-3
+unfolding negated
+fold-in-requires-3 c κs =
+    let h = c .before .before .before .before in
+    let k = at-two (past-two h) in
+    let s = begun k in
+    fold-asked (two (past-two h)) (omega arith) (sum-is h) (gained s) (polynomials k .1 .1 .0) (small s .1 .1 .0)
+
+front-requires-2 : tie.Need-front-requires-2
+front-requires-2 c κs = search needs
 
 add-twice : tie.Need-add-twice
-add-twice c = let s = c .before .before .before .before .before .before .before .before in rw (toZ-ofZ (s .fits .amount)) (doubled-fits (s .args .amount) (s .pre))
+add-twice c = let s = begun (at-three (past-three c)) in rw (gained s) (doubled-fits (s .args .amount) (s .pre .1))
+
+fold-in-requires-4 : tie.Need-fold-in-requires-4
+unfolding negated
+fold-in-requires-4 c κs =
+    let h = c .before .before .before .before in
+    let k = at-three (past-three h) in
+    let s = begun k in
+    fold-asked (three (past-three h)) (omega arith) (product-is h) (doubled s) (polynomials k .1 .1 .1 .0) (small s .1 .1 .1 .0)
+
+same-length : tie.Need-same-length
+same-length c = four (last c) .kept .entries ∙ sym (none (begun (at-four (last c))) .kept .entries)
+
+same-length-2 : tie.Need-same-length-2
+same-length-2 c = four (last c) .kept .terms-length ∙ sym (none (begun (at-four (last c))) .kept .terms-length)
+
+same-length-3 : tie.Need-same-length-3
+same-length-3 c = four (last c) .kept .weights-length ∙ sym (none (begun (at-four (last c))) .kept .weights-length)
+
+same-length-4 : tie.Need-same-length-4
+same-length-4 c = four (last c) .kept .counts-length ∙ sym (none (begun (at-four (last c))) .kept .counts-length)
 
 returns-3 : tie.Need-returns-3
-unfolding allShort changesOf negated
-returns-3 c =
-    let s = c .before .before .before .before .before .before .before .before in
-    let f : List ℕ = termsOf (s .args .f) in
-    let g : List ℕ = termsOf (s .args .g) in
-    let k = c .before .before .before .before .before .before .before .sum in
-    let m = c .before .before .before .before .before .before .product in
-    let e = short (k .result) (sumOf f g) (k .ensures) (c .before .before .before .before .if1 .left) in
-    let d = short (m .result) (productOf f g) (m .ensures) (c .before .before .if2 .left) in
-    let p = terms-are (k .result) (sumOf f g) (k .ensures) (c .before .before .before .before .if1 .left) in
-    let q = terms-are (m .result) (productOf f g) (m .ensures) (c .before .before .if2 .left) in
-    let doubled = toZ-ofZ (doubled-fits (s .args .amount) (s .pre)) in
-    (rw (e, d), λ z. simp (toZ-ofZ (s .fits .amount), negated-back (s .args .amount) (s .pre), doubled, p, q))
+unfolding negated
+returns-3 c = let k = four (last c) in (sym (fits (at-four (last c))), (λ z. k .memory, k .kept))
 
 pub plan-sum-spec : {M : Type 1} → statement M
 plan-sum-spec =
     tie.close
-    (tie.spec sum-requires product-requires returns returns-2 sub-lost add-twice returns-3)
+    (tie.spec
+    sum-of-requires
+    product-of-requires
+    unfit-requires
+    returns
+    unfit-requires-2
+    returns-2
+    sub-fold-in
+    fold-in-requires
+    sub-fold-in-2
+    fold-in-requires-2
+    front-requires
+    fold-in-requires-3
+    front-requires-2
+    add-twice
+    fold-in-requires-4
+    same-length
+    same-length-2
+    same-length-3
+    same-length-4
+    returns-3)

@@ -16,7 +16,7 @@ use Rattle.polynomial.specs.declared.Ordering.{Ordering}
 use Rattle.polynomial.specs.declared.Ordering.the-variants.{Earlier, Same, Later}
 use Rattle.polynomial.proofs.Ordering.{the-type}
 use Rattle.configuration.specs.Configuration.{Line}
-use Rattle.configuration.specs.Memory.{linesIn}
+use Rattle.configuration.specs.Index.{linesBy}
 use Rattle.calculus.specs.Calculus.{premises, there}
 use Rattle.calculus.specs.declared.Rule.{Rule}
 use Rattle.calculus.proofs.Plans.{doubled-fits}
@@ -26,10 +26,10 @@ use Rattle.calculus.proofs.step.is_there.Tie as tie
 use types.Run.{OneOf}
 
 abbrev held : tie.Start → List Line
-held s = linesIn (s .args .head) (now (s .args .terms)) (now (s .args .weights)) (now (s .args .counts))
+held s = linesBy (s .args .head) (now (s .args .index)) (now (s .args .terms)) (now (s .args .weights)) (now (s .args .counts))
 
 abbrev begun : tie.After-compare → tie.Start
-begun c = c .before .before .before .before .before .before .before
+begun c = c .before .before .before .before .before .before .before .before
 
 by-rule : (s : tie.Start) {r : Rule} → s .args .rule ≡ r
     → there (held s) (premises r (now (s .args .f)) (now (s .args .g)) (s .args .amount))
@@ -69,7 +69,7 @@ enum-told-3 : tie.Need-enum-told-3
 enum-told-3 c = search needs
 
 add-twice : tie.Need-add-twice
-add-twice c = let s = c .before .before .before .before .before .before .before .before .before in rw (toZ-ofZ (s .fits .amount)) (doubled-fits (s .args .amount) (s .pre .1))
+add-twice c = let s = begun (c .before .before) in rw (toZ-ofZ (s .fits .amount)) (doubled-fits (s .args .amount) (s .pre .2))
 
 is-held-requires-2 : tie.Need-is-held-requires-2
 is-held-requires-2 c κs = search needs
@@ -89,7 +89,7 @@ is-held-requires-4 c κs = search needs
 
 returns-2 : tie.Need-returns-2
 returns-2 c =
-    let s = c .before .before .before .before .before .before .before in
+    let s = c .before .before .before .before .before .before .before .before in
     let e : c .is-held .result ≡ enough (held s) (now (s .args .f)) (s .args .amount) = rw (toZ-ofZ (s .fits .amount)) at (c .is-held .ensures) in
     e ∙ asked-once (held s) (now (s .args .f)) (now (s .args .g)) (s .args .amount) ∙ by-rule s (c .before .enum-told .given .1)
 
@@ -98,7 +98,7 @@ returns-3 c =
     let k = c .before .before .before in
     let s = begun k in
     let e : c .is-held2 .result ≡ enough (held s) (now (s .args .f)) (s .args .amount +ℤ s .args .amount) =
-    rw (toZ-ofZ (s .fits .amount), toZ-ofZ (doubled-fits (s .args .amount) (s .pre .1))) at (c .is-held2 .ensures) in
+    rw (toZ-ofZ (s .fits .amount), toZ-ofZ (doubled-fits (s .args .amount) (s .pre .2))) at (c .is-held2 .ensures) in
     let o : orderOf (now (s .args .f)) (now (s .args .g)) ≡ Same = sym (k .compare .ensures) ∙ c .before .enum-told3 .given .1 in
     e ∙ asked-twice (held s) (now (s .args .f)) (now (s .args .g)) (s .args .amount) o ∙ by-rule s (k .before .enum-told2 .given .1)
 

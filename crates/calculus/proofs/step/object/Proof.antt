@@ -1,20 +1,17 @@
 -- `object` meets its contract: the tests in their order, and in the signed mode the amount's range alone.
-use mathlib.Core.Path.{_≡_, sym, ap, _∙_}
+use mathlib.Core.Path.{_≡_, sym, _∙_}
 use mathlib.Core.Logic.{⊎-elim}
 use mathlib.Core.Bool.{Bool, true, not, _&&_, _||_}
 use mathlib.Core.List.{List}
-use Prim.Native.Nat.{_≤_}
-use native.Mathlib.Omega.{arith}
-use lib.ListN.{length, take}
+use lib.ListN.{length}
 use denote.Ref.{now}
 use mir.Facts.{toZ-ofZ}
 use borrow.Author.Needs.{needs}
 use borrow.Author.Tests.{not-true, not-false}
 use Rattle.configuration.specs.Weight.{noneNegative}
 use Rattle.configuration.specs.Configuration.{Line, anyNegative}
-use Rattle.configuration.specs.Memory.{memoryOf, linesIn}
-use Rattle.configuration.specs.MemoryLaws.{formed-parts}
-use Rattle.configuration.proofs.Forms.{none-negative-lines}
+use Rattle.configuration.specs.Index.{linesBy}
+use Rattle.configuration.specs.TurnLaws.{kept-negative}
 use Rattle.calculus.specs.Calculus.{premises, isPlain, amountFits, there}
 use Rattle.calculus.specs.declared.Mode.the-variants.{Plain}
 use Rattle.calculus.proofs.Steps.{plain-tests, signed-passes, amount-in-range}
@@ -22,28 +19,21 @@ use Rattle.calculus.proofs.step.object.Statement.{statement}
 use Rattle.calculus.proofs.step.object.Tie as tie
 
 abbrev held : tie.Start → List Line
-held s = linesIn (s .args .head) (now (s .args .terms)) (now (s .args .weights)) (now (s .args .counts))
-
-in-weights : (s : tie.Start) → s .args .head .lines ≤ length (now (s .args .weights))
-in-weights s =
-    let a = s .args in
-    let q = formed-parts (length (now (a .counts))) (memoryOf (a .head) (now (a .terms)) (now (a .weights)) (now (a .counts))) (s .pre) in
-    omega (arith, q .room, q .weights-length)
+held s = linesBy (s .args .head) (now (s .args .index)) (now (s .args .terms)) (now (s .args .weights)) (now (s .args .counts))
 
 -- the first test, in the plain mode
-first : (s : tie.Start) → s .args .mode ≡ Plain
-    → not (isPlain (s .args .mode) && anyNegative (held s)) ≡ noneNegative (take (s .args .head .lines) (now (s .args .weights)))
+first : (s : tie.Start) → s .args .mode ≡ Plain → not (isPlain (s .args .mode) && anyNegative (held s)) ≡ noneNegative (now (s .args .weights))
 first s e =
     let a = s .args in
-    ap (λ (b : Bool). not (isPlain (a .mode) && b)) (none-negative-lines (a .head .lines) (now (a .terms)) (now (a .weights)) (now (a .counts)) (in-weights s))
-    ∙ plain-tests (a .mode) (noneNegative (take (a .head .lines) (now (a .weights)))) e .0
+    plain-tests (a .mode) (anyNegative (held s)) e .0
+    ∙ sym (kept-negative (length (now (a .counts))) (a .head) (now (a .index)) (now (a .terms)) (now (a .weights)) (now (a .counts)) (s .pre .0) (s .pre .1))
 
 abbrev begun : tie.At-match-came → tie.Start
-begun c = c .before .before .before .before .before
+begun c = c .before .before .before .before .before .before
 
 first-passed : (c : tie.At-match-came) → not (isPlain (begun c .args .mode) && anyNegative (held (begun c))) ≡ true
 first-passed c =
-    ⊎-elim (λ w. first (begun c) (w .1 .given .1) ∙ sym (w .3 .ensures) ∙ not-false (w .3 .result) (w .4 .left))
+    ⊎-elim (λ w. first (begun c) (w .1 .given .1) ∙ sym (w .2 .ensures) ∙ not-false (w .2 .result) (w .3 .left))
     (λ w. signed-passes (begun c .args .mode) (anyNegative (held (begun c))) (w .1 .given .1) .0)
     (c .match .came)
 
@@ -66,17 +56,14 @@ third c =
 enum-told : tie.Need-enum-told
 enum-told c = search needs
 
-cast-none-negative : tie.Need-cast-none-negative
-cast-none-negative c = search needs
-
 none-negative-requires : tie.Need-none-negative-requires
-none-negative-requires c κs = in-weights (c .before .before .before .before .before .before .before)
+none-negative-requires c κs = search needs
 
 returns : tie.Need-returns
 returns c =
     let k = c .before .none-negative in
     let s = c .before .before .before .before .before .before .before .before .before in
-    λ t. rw (first s (c .before .before .before .enum-told .given .1) ∙ sym (k .ensures) ∙ not-true (k .result) (c .if1 .taken))
+    λ t. rw (first s (c .before .before .enum-told .given .1) ∙ sym (k .ensures) ∙ not-true (k .result) (c .if1 .taken))
 
 enum-told-2 : tie.Need-enum-told-2
 enum-told-2 c = search needs
@@ -96,11 +83,10 @@ enum-told-3 c = search needs
 is-there-requires : tie.Need-is-there-requires
 is-there-requires c κs =
     let s = begun (c .before .before .before .before) in
-    (s .pre, rw (toZ-ofZ (s .fits .amount)) (amount-in-range (s .args .mode) (s .args .amount) (second-passed (c .before .before))))
+    (s .pre .0, s .pre .1, rw (toZ-ofZ (s .fits .amount)) (amount-in-range (s .args .mode) (s .args .amount) (second-passed (c .before .before))))
 
 returns-3 : tie.Need-returns-3
 returns-3 c =
-    let s = begun (c .before .before .before .before .before .before) in
     λ t. rw (
       first-passed (c .before .before .before .before .before .before),
       second-passed (c .before .before .before .before),
@@ -112,7 +98,6 @@ enum-told-4 c = search needs
 
 returns-4 : tie.Need-returns-4
 returns-4 c =
-    let s = begun (c .before .before .before .before .before .before) in
     λ t. rw (
       first-passed (c .before .before .before .before .before .before),
       second-passed (c .before .before .before .before),
@@ -134,7 +119,6 @@ object-spec =
     tie.close
     (tie.spec
     enum-told
-    cast-none-negative
     none-negative-requires
     returns
     enum-told-2

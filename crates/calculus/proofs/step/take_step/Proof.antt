@@ -1,5 +1,5 @@
--- `take_step` meets its contract: the tests in their order, and then the step with what was loaded.
-use mathlib.Core.Path.{_≡_, sym, ap, ap₂, _∙_}
+-- `take_step` meets its contract: the tests in their order, and then the step, by an index of the lines in turn; what it leaves is put in turn again.
+use mathlib.Core.Path.{_≡_, sym, ap, subst, _∙_}
 use mathlib.Core.Bool.{true}
 use mathlib.Core.List.{List}
 use Prim.Native.Nat.{ℕ}
@@ -9,16 +9,15 @@ use denote.Ref.{now}
 use borrow.Author.Needs.{needs}
 use borrow.Author.Tests.{not-true, not-false}
 use Rattle.run.specs.Boolean.{of-true}
-use Rattle.polynomial.specs.Polynomial.{termsOf}
 use Rattle.configuration.specs.Configuration.{isPolynomial}
 use Rattle.configuration.specs.Memory.{Memory, memoryOf, linesOf, wellFormed}
+use Rattle.configuration.specs.Index.{indexedOf, Kept}
+use Rattle.configuration.specs.TurnLaws.{turn-memory, turn-kept}
 use Rattle.configuration.specs.Replacement.{Step}
 use Rattle.calculus.specs.Calculus.{step, objected, Left, leftOf, leaves, directStep}
 use Rattle.calculus.specs.declared.Objection.{Objection}
 use Rattle.calculus.specs.declared.Stepped.{Stepped}
-use Rattle.configuration.specs.FormLaws.{polynomial-short}
-use Rattle.polynomial.specs.PolynomialLaws.{terms-of}
-use Rattle.calculus.proofs.Steps.{operands-fit, other-lengths, not-formed, stepped}
+use Rattle.calculus.proofs.Steps.{settled, operands-fit, other-lengths, not-formed, stepped}
 use Rattle.calculus.proofs.step.take_step.Statement.{statement}
 use Rattle.calculus.proofs.step.take_step.Tie as tie
 
@@ -28,8 +27,11 @@ memory s = memoryOf (s .args .head) (now (s .args .terms)) (now (s .args .weight
 abbrev answer : tie.Start → Left
 answer s = directStep (s .args .rule) (s .args .mode) (now (s .args .f)) (now (s .args .g)) (s .args .amount) (memory s)
 
-abbrev taken-with : tie.Start → List ℕ → List ℕ → Step
-taken-with s f g = step (s .args .rule) (s .args .mode) f g (s .args .amount) (linesOf (memory s))
+abbrev step-in : tie.Start → Memory → Step
+step-in s m = step (s .args .rule) (s .args .mode) (now (s .args .f)) (now (s .args .g)) (s .args .amount) (linesOf m)
+
+abbrev taken-in : tie.Start → Step
+taken-in s = step-in s (memory s)
 
 -- what an answer leaves where nothing is written
 abbrev left-in : tie.Start → Stepped → Left
@@ -47,7 +49,7 @@ whole c = sym (c .before .well-formed .ensures) ∙ not-false (c .before .well-f
 
 found : (c : tie.After-misfit)
     → (let s = begun (c .before) in
-    leaves (memory s) (objected (c .misfit .result) (taken-with s (now (s .args .f)) (now (s .args .g)))) ≡ answer s)
+    leaves (memory s) (objected (c .misfit .result) (taken-in s)) ≡ answer s)
 found c =
     let k = c .before .before .before .before .before .before in
     let s = begun (c .before) in
@@ -138,32 +140,48 @@ returns-5 c =
     let k = c .before .before .before .before in
     let s = begun (k .before) in
     ap (left-in s) (c .refused5 .ensures)
-    ∙ ap (λ (o : Objection). leaves (memory s) (objected o (taken-with s (now (s .args .f)) (now (s .args .g))))) (sym (c .before .before .objection .given .1))
+    ∙ ap (λ (o : Objection). leaves (memory s) (objected o (taken-in s))) (sym (c .before .before .objection .given .1))
     ∙ found k
 
 enum-told : tie.Need-enum-told
 enum-told c = search needs
 
-load-requires : tie.Need-load-requires
-load-requires c κs =
-    let k = c .before .before .before in
+-- ---- the index
+indexed : (c : tie.After-in-turn) → (let s = start (c .before .before) in Kept 128 (s .args .head) (c .in-turn .result) (now (s .args .terms)) (now (s .args .weights)) (now (s .args .counts)))
+indexed c =
+    let k = c .before .before in
     let a = start k .args in
-    polynomial-short (a .head .variables) (now (a .f)) (operands k .0)
+    subst (λ (is : List ℕ). Kept 128 (a .head) is (now (a .terms)) (now (a .weights)) (now (a .counts))) (sym (c .in-turn .ensures))
+    (turn-kept (a .head) (now (a .terms)) (now (a .weights)) (now (a .counts)) (of-true (whole (k .before .before .before))))
 
-load-requires-2 : tie.Need-load-requires-2
-load-requires-2 c κs =
-    let k = c .before .before .before .before in
+abbrev first : tie.After-in-turn → Memory
+first c =
+    let a = start (c .before .before) .args in
+    indexedOf (a .head) (c .in-turn .result) (now (a .terms)) (now (a .weights)) (now (a .counts))
+
+same-memory : (c : tie.After-in-turn) → first c ≡ memory (start (c .before .before))
+same-memory c =
+    let k = c .before .before in
     let a = start k .args in
-    polynomial-short (a .head .variables) (now (a .g)) (operands k .1)
+    ap (λ (is : List ℕ). indexedOf (a .head) is (now (a .terms)) (now (a .weights)) (now (a .counts))) (c .in-turn .ensures)
+    ∙ turn-memory (a .head) (now (a .terms)) (now (a .weights)) (now (a .counts)) (of-true (whole (k .before .before .before)))
+
+in-turn-requires : tie.Need-in-turn-requires
+in-turn-requires c κs = c .before .before .before .before .before .before .before .before .before .before .before .if1 .left
+
+slice-aggregate-step : tie.Need-slice-aggregate-step
+slice-aggregate-step c = sym (indexed (c .before) .entries)
 
 step-requires : tie.Need-step-requires
 step-requires c κs =
-    let k = c .before .before .before .before .before in
-    let a = start k .args in (
-      of-true (whole (k .before .before .before)),
-      rw (terms-of (now (a .f)) (c .before .load .result) (c .before .load .ensures)) (operands k .0),
-      rw (terms-of (now (a .g)) (c .load2 .result) (c .load2 .ensures)) (operands k .1),
-    )
+    let i = c .before .before .before .before in
+    let k = i .before .before in
+    (indexed i, subst (λ (m : Memory). T (wellFormed m)) (sym (same-memory i)) (of-true (whole (k .before .before .before))), operands k .0, operands k .1)
+
+settle-requires : tie.Need-settle-requires
+settle-requires c κs =
+    let k = c .before .before .before .before .before .before .before .before .before .step .ensures .1 in
+    (k .once, k .terms-length, k .weights-length, k .counts-length)
 
 same-length-7 : tie.Need-same-length-7
 same-length-7 c = search needs
@@ -176,17 +194,19 @@ same-length-9 c = search needs
 
 returns-6 : tie.Need-returns-6
 returns-6 c =
-    let t = c .before .before .before .before .before in
-    let k = t .before .before .before .before .before .before in
+    let t = c .before .before .before .before .before .before .before .before .before .before .before .before .before .before .before in
+    let i = t .before .before .before .before .before in
+    let k = i .before .before in
     let s = start k in
     let r = t .step in
-    let e : leftOf (memoryOf (r .result .head) (r .last .1 .0) (r .last .1 .1 .0) (r .last .1 .1 .1 .0)) (r .result .answer)
-    ≡ leaves (memory s) (taken-with s (termsOf (t .before .before .load .result)) (termsOf (t .before .load2 .result))) =
-    rw (toZ-ofZ (s .fits .amount)) at (r .ensures) in
-    e
-    ∙ ap₂ (λ (x y : List ℕ). leaves (memory s) (taken-with s x y)) (terms-of (now (s .args .f)) (t .before .before .load .result) (t .before .before .load .ensures))
-    (terms-of (now (s .args .g)) (t .before .load2 .result) (t .before .load2 .ensures))
-    ∙ ap (λ (o : Objection). leaves (memory s) (objected o (taken-with s (now (s .args .f)) (now (s .args .g))))) (sym (k .enum-told .given .1))
+    let u = c .before .before .before .before .before .settle in
+    let e : leftOf (indexedOf (r .result .head) (r .last .1 .0) (r .last .1 .1 .0) (r .last .1 .1 .1 .0) (r .last .1 .1 .1 .1 .0)) (r .result .answer) ≡ leaves (first i) (step-in s (first i)) =
+    rw (toZ-ofZ (s .fits .amount)) at (r .ensures .0) in
+    ap (λ (m : Memory). leftOf m (r .result .answer))
+    (settled (r .result .head) (r .last .1 .0) (r .last .1 .1 .0) (r .last .1 .1 .1 .0) (r .last .1 .1 .1 .1 .0) (u .last .1 .0) (u .last .1 .1 .0) (u .last .1 .1 .1 .0) (u .ensures))
+    ∙ e
+    ∙ ap (λ (m : Memory). leaves m (step-in s m)) (same-memory i)
+    ∙ ap (λ (o : Objection). leaves (memory s) (objected o (taken-in s))) (sym (k .enum-told .given .1))
     ∙ found (k .before .before)
 
 pub take-step-spec : {M : Type 1} → statement M
@@ -213,9 +233,10 @@ take-step-spec =
     same-length-6
     returns-5
     enum-told
-    load-requires
-    load-requires-2
+    in-turn-requires
+    slice-aggregate-step
     step-requires
+    settle-requires
     same-length-7
     same-length-8
     same-length-9

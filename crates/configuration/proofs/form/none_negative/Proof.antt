@@ -1,12 +1,15 @@
--- `none_negative` meets its contract. The invariant: none of the first weights is negative just if none from `i` on is.
+-- `none_negative` meets its contract. The invariant: no weight is negative just if none has been counted and none from `i` on is.
 use mathlib.Core.Path.{_≡_, refl, sym, ap, _∙_}
-use mathlib.Core.Bool.{Bool, not}
-use Prim.Native.Nat.{_-_}
+use mathlib.Core.Logic.{⊎-elim}
+use mathlib.Core.Bool.{Bool, not, _&&_}
+use Prim.Native.Nat.{_-_, _≤_, _<_}
+use native.Mathlib.Omega.{arith}
+use lib.Dec.{eqb}
 use lib.IntN.{ℤ, pos}
-use lib.ListN.{getD, take, drop}
+use lib.ListN.{length, getD, drop}
 use borrow.Author.Needs.{needs}
 use Rattle.configuration.specs.Weight.{isNegative, noneNegative}
-use Rattle.configuration.proofs.Areas.{first-stops, first-goes-on, first-ends, read-back}
+use Rattle.configuration.proofs.Areas.{one-fails, one-passes, all-counted, read-back}
 use Rattle.configuration.proofs.form.none_negative.Statement.{statement}
 use Rattle.configuration.proofs.form.none_negative.Tie as tie
 
@@ -15,10 +18,10 @@ abbrev nonNegative : ℤ → Bool
 nonNegative w = not (isNegative w)
 
 abbrev Inv-loop : tie.InvT-loop
-Inv-loop lines weights i₀ i = noneNegative (drop i (take lines weights)) ≡ noneNegative (take lines weights)
+Inv-loop weights negative₀ i₀ negative i = ((eqb negative 0 && noneNegative (drop i weights)) ≡ noneNegative weights) × (negative ≤ i) × (i ≤ length weights)
 
 abbrev μ-loop : tie.MeasureT-loop
-μ-loop lines weights i₀ i = lines - i
+μ-loop weights negative₀ i₀ negative i = length weights - i
 
 loop-holds : tie.Need-loop-holds Inv-loop μ-loop
 loop-holds c = search needs
@@ -32,20 +35,8 @@ shared-slice-copy-out-is-negative c = search needs
 is-negative-requires : tie.Need-is-negative-requires Inv-loop μ-loop
 is-negative-requires c κs = search needs
 
--- what is answered is the test of weight `i`
-tested : (c : tie.After-is-negative Inv-loop μ-loop)
-    → c .is-negative .result ≡ isNegative (getD (c .before .before .before .before .args .weights .now) (c .before .before .before .loop .i) (pos 0))
-tested c =
-    let w = getD (c .before .before .before .before .args .weights .now) (c .before .before .before .loop .i) (pos 0) in
-    c .is-negative .ensures ∙ ap isNegative (read-back w (c .before .is-negative-arg .given))
-
-returns : tie.Need-returns Inv-loop μ-loop
-unfolding noneNegative
-returns c =
-    let l = c .before .before .before .before .loop in
-    let s = c .before .before .before .before .before in
-    first-stops nonNegative noneNegative refl (λ w r. refl) (s .args .weights .now) (s .args .lines) (l .i) (pos 0) (s .pre) (l .inv) (c .before .before .before .loop-test .taken)
-    (ap not (sym (tested (c .before)) ∙ c .if1 .taken))
+add-negative : tie.Need-add-negative Inv-loop μ-loop
+add-negative c = search needs
 
 add-i : tie.Need-add-i Inv-loop μ-loop
 add-i c = search needs
@@ -53,20 +44,33 @@ add-i c = search needs
 loop-less : tie.Need-loop-less Inv-loop μ-loop
 loop-less c = search needs
 
+-- what is answered is the test of weight `i`
+tested : (c : tie.After-is-negative Inv-loop μ-loop)
+    → c .is-negative .result ≡ isNegative (getD (c .before .before .before .before .args .weights .now) (c .before .before .before .loop .i) (pos 0))
+tested c =
+    let w = getD (c .before .before .before .before .args .weights .now) (c .before .before .before .loop .i) (pos 0) in
+    c .is-negative .ensures ∙ ap isNegative (read-back w (c .before .is-negative-arg .given))
+
 loop-again : tie.Need-loop-again Inv-loop μ-loop
 unfolding noneNegative
 loop-again c =
-    let l = c .before .before .before .before .loop in
-    let s = c .before .before .before .before .before in
-    first-goes-on nonNegative noneNegative refl (λ w r. refl) (s .args .weights .now) (s .args .lines) (l .i) (pos 0) (s .pre) (l .inv) (c .before .before .before .loop-test .taken)
-    (ap not (sym (tested (c .before)) ∙ c .if1 .left))
+    let k = c .before in
+    let l = k .before .before .before .loop in
+    let s = k .before .before .before .before .args .weights .now in
+    let h : l .i < length s = omega arith in (
+      ⊎-elim
+          (λ w. one-fails nonNegative noneNegative refl (λ x r. refl) s (l .i) (pos 0) (l .negative) (l .inv .0) (c .if1 .negative) (w .1) h (ap not (sym (tested k) ∙ w .0 .taken)))
+          (λ w. one-passes nonNegative noneNegative refl (λ x r. refl) s (l .i) (pos 0) (l .negative) (l .inv .0) (c .if1 .negative) (w .1) h (ap not (sym (tested k) ∙ w .0 .left)))
+          (c .if1 .came),
+      ⊎-elim (λ w. omega (arith, w)) (λ w. omega (arith, w)) (c .if1 .came),
+      omega arith,
+    )
 
-returns-2 : tie.Need-returns-2 Inv-loop μ-loop
+returns : tie.Need-returns Inv-loop μ-loop
 unfolding noneNegative
-returns-2 c =
+returns c =
     let l = c .before .loop in
-    let s = c .before .before in
-    first-ends nonNegative noneNegative refl (λ w r. refl) (s .args .weights .now) (s .args .lines) (l .i) (pos 0) (s .pre) (l .inv) (c .loop-test .left)
+    all-counted nonNegative noneNegative refl (λ x r. refl) (c .before .before .args .weights .now) (l .i) (pos 0) (l .negative) (l .inv .0) (omega arith)
 
 pub none-negative-spec : {M : Type 1} → statement M
 none-negative-spec =
@@ -78,8 +82,8 @@ none-negative-spec =
     mul-is-negative
     shared-slice-copy-out-is-negative
     is-negative-requires
-    returns
+    add-negative
     add-i
     loop-less
     loop-again
-    returns-2)
+    returns)

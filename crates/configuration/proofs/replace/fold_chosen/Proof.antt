@@ -3,31 +3,33 @@ use mathlib.Core.Path.{_≡_, sym, ap, ap₂, _∙_, subst}
 use mathlib.Core.Logic.{⊎-elim}
 use mathlib.Core.Bool.{Bool, true, false, Bool·beq}
 use mathlib.Core.List.{List}
-use Prim.Native.Nat.{ℕ, _+_, _-_, _^_, _≤_, _<_}
+use Prim.Native.Nat.{ℕ, _+_, _-_, _≤_, _<_}
 use native.Mathlib.Omega.{arith}
 use lib.Dec.{T}
-use lib.IntN.{ℤ, pos, _+ℤ_}
-use lib.Signed.{mag}
+use lib.IntN.{ℤ, pos}
 use lib.ListN.{length, getD}
 use mir.Syntax.{w64}
 use mir.Val.{toZ, ofZ}
 use borrow.Author.Needs.{needs}
 use Rattle.configuration.specs.Weight.{isZero}
-use Rattle.configuration.specs.Configuration.{line, weight, add, isPolynomial}
-use Rattle.configuration.specs.Memory.{Memory, memoryOf, linesOf, linesIn, readLines, imageOf, formed}
-use Rattle.configuration.specs.MemoryLaws.{Formed, formed-parts}
+use Rattle.configuration.specs.Configuration.{line, add, isPolynomial}
+use Rattle.configuration.specs.Memory.{Memory, linesOf, readLines, formed}
+use Rattle.configuration.specs.declared.Head.{Head}
+use Rattle.configuration.specs.Index.{arranged, indexedOf, linesBy, Kept}
 use Rattle.configuration.proofs.Areas.{read-back}
 use Rattle.configuration.proofs.Forms.{rowAt}
-use Rattle.configuration.proofs.Replacements.{none, zero-bits, row-fits, line-here, row-polynomial, table-length, fold-asks, fold-gives, Folding, folding-none, folding-all, folding-skip, folding-room, folding-fits, folding-more}
+use Rattle.configuration.proofs.Replacements.{none, zero-bits, line-here, row-polynomial, table-length, Read, read, in-index, fold-asks, fold-gives, Folding, folding-none, folding-all, folding-skip, folding-room, folding-fits, folding-more}
 use Rattle.configuration.proofs.replace.fold_chosen.Statement.{statement}
 use Rattle.configuration.proofs.replace.fold_chosen.Tie as tie
 
 abbrev Inv-loop : tie.InvT-loop
-Inv-loop terms₀ weights₀ counts₀ new-terms new-weights new-counts after vanishing held₀ lines i₀ terms weights counts held i =
-    (i ≤ lines) × Folding vanishing after (readLines lines new-terms new-weights new-counts) (held₀ .variables) (linesIn held₀ terms₀ weights₀ counts₀) i (memoryOf held terms weights counts)
+Inv-loop index₀ terms₀ weights₀ counts₀ new-index new-terms new-weights new-counts after vanishing held₀ lines i₀ index terms weights counts held i =
+    let N = readLines lines (arranged 64 new-index new-terms) (arranged 1 new-index new-weights) (arranged 1 new-index new-counts) in
+    (i ≤ lines) × Folding vanishing after N (held₀ .variables) (linesBy held₀ index₀ terms₀ weights₀ counts₀) i (indexedOf held index terms weights counts)
+    × Kept 128 held index terms weights counts
 
 abbrev μ-loop : tie.MeasureT-loop
-μ-loop terms₀ weights₀ counts₀ new-terms new-weights new-counts after vanishing held₀ lines i₀ terms weights counts held i =
+μ-loop index₀ terms₀ weights₀ counts₀ new-index new-terms new-weights new-counts after vanishing held₀ lines i₀ index terms weights counts held i =
     lines - i
 
 cast-lines : tie.Need-cast-lines Inv-loop μ-loop
@@ -35,191 +37,190 @@ cast-lines c = search needs
 
 loop-holds : tie.Need-loop-holds Inv-loop μ-loop
 loop-holds c =
-    let s = c .before .before .before .before .before in
+    let s = c .before .before .before .before .before .before .before in
     let a = s .args in (
       omega arith,
-      folding-none (a .vanishing) (a .after .now) (linesIn (a .new) (a .new-terms .now) (a .new-weights .now) (a .new-counts .now))
-          (memoryOf (a .head) (a .terms .now) (a .weights .now) (a .counts .now)) (s .pre .0) (s .pre .4),
+      folding-none (a .vanishing) (a .after .now) (linesBy (a .new) (a .new-index .now) (a .new-terms .now) (a .new-weights .now) (a .new-counts .now))
+          (indexedOf (a .head) (a .index .now) (a .terms .now) (a .weights .now) (a .counts .now)) (s .pre .1) (s .pre .6),
+      s .pre .0,
     )
+
+-- ---- line `i` of the new table
+abbrev In : Type 0
+In = tie.In-loop Inv-loop μ-loop
+
+abbrev At : Type 0
+At = tie.After-vanishes Inv-loop μ-loop
+
+abbrev start : In → tie.Start Inv-loop μ-loop
+start c = c .before .before .before .before .before .before .before .before .before
+
+abbrev new : In → Memory
+new c =
+    let a = start c .args in
+    indexedOf (a .new) (a .new-index .now) (a .new-terms .now) (a .new-weights .now) (a .new-counts .now)
+
+abbrev old : In → Memory
+old c =
+    let a = start c .args in
+    indexedOf (a .head) (a .index .now) (a .terms .now) (a .weights .now) (a .counts .now)
+
+abbrev table : In → Memory
+table c =
+    let l = c .before .loop in
+    indexedOf (l .held) (l .index) (l .terms) (l .weights) (l .counts)
+
+abbrev place : In → ℕ
+place c = c .before .loop .i
+
+abbrev vanishing : In → Bool
+vanishing c = start c .args .vanishing
+
+abbrev after : In → List ℤ
+after c = start c .args .after .now
+
+abbrev polynomial : In → List ℕ
+polynomial c = rowAt ((new c) .terms) ((new c) .counts) (place c)
+
+abbrev amount : In → ℤ
+amount c = getD ((new c) .weights) (place c) (pos 0)
+
+is-new : (c : In) → T (formed 4 (new c))
+is-new c = start c .pre .3
+
+folding : (c : In) → Folding (vanishing c) (after c) (linesOf (new c)) ((old c) .variables) (linesOf (old c)) (place c) (table c)
+folding c = c .before .loop .inv .1
+
+below : (c : In) → place c < (new c) .lines
+below c = c .loop-test .taken
+
+in-new : (c : In) → (place c < length (after c)) × (place c < length (linesOf (new c)))
+in-new c = omega (arith, below c, table-length 4 (new c) (is-new c), start c .pre .5)
+
+is-polynomial : (c : In) → T (isPolynomial ((old c) .variables) (polynomial c))
+is-polynomial c = subst (λ (n : ℕ). T (isPolynomial n (polynomial c))) (start c .pre .4) (row-polynomial 4 (new c) (is-new c) (place c) (below c))
 
 mul-vanishes : tie.Need-mul-vanishes Inv-loop μ-loop
 mul-vanishes c = search needs
 
 shared-slice-copy-out-vanishes : tie.Need-shared-slice-copy-out-vanishes Inv-loop μ-loop
-shared-slice-copy-out-vanishes c = omega (arith, c .loop-test .taken, c .before .before .before .before .before .before .before .pre .3)
+shared-slice-copy-out-vanishes c = in-new c .0
 
--- ---- line `i` of the new table
-abbrev At : Type 0
-At = tie.After-vanishes Inv-loop μ-loop
+is-chosen : (c : tie.Then1 Inv-loop μ-loop) → Bool·beq (isZero (getD (after (c .before .before)) (place (c .before .before)) (pos 0))) (vanishing (c .before .before)) ≡ true
+is-chosen c =
+    let b = c .before .before in
+    ap (λ (x : Bool). Bool·beq x (vanishing b)) (sym (zero-bits (getD (after b) (place b) (pos 0)) (c .before .vanishes .given))) ∙ c .if1 .taken
 
-abbrev new : At → Memory
-new c =
-    let a = c .before .before .before .before .before .before .before .before .args in
-    memoryOf (a .new) (a .new-terms .now) (a .new-weights .now) (a .new-counts .now)
+not-chosen : (c : tie.Else1 Inv-loop μ-loop) → Bool·beq (isZero (getD (after (c .before .before)) (place (c .before .before)) (pos 0))) (vanishing (c .before .before)) ≡ false
+not-chosen c =
+    let b = c .before .before in
+    ap (λ (x : Bool). Bool·beq x (vanishing b)) (sym (zero-bits (getD (after b) (place b) (pos 0)) (c .before .vanishes .given))) ∙ c .if1 .left
 
-abbrev old : At → Memory
-old c =
-    let a = c .before .before .before .before .before .before .before .before .args in
-    memoryOf (a .head) (a .terms .now) (a .weights .now) (a .counts .now)
+row-at-requires : tie.Need-row-at-requires Inv-loop μ-loop
+row-at-requires c κs =
+    let b = c .before .before in
+    let a = start b .args in
+    in-index 4 (a .new) (a .new-index .now) (a .new-terms .now) (a .new-weights .now) (a .new-counts .now) (start b .pre .2) (is-new b) (place b) (below b)
 
-abbrev table : At → Memory
-table c =
-    let l = c .before .before .loop in
-    memoryOf (l .held) (l .terms) (l .weights) (l .counts)
-
-abbrev index : At → ℕ
-index c = c .before .before .loop .i
-
-abbrev vanishing : At → Bool
-vanishing c = c .before .before .before .before .before .before .before .before .args .vanishing
-
-abbrev after : At → List ℤ
-after c = c .before .before .before .before .before .before .before .before .args .after .now
-
-abbrev polynomial : At → List ℕ
-polynomial c = rowAt ((new c) .terms) ((new c) .counts) (index c)
-
-abbrev amount : At → ℤ
-amount c = getD ((new c) .weights) (index c) (pos 0)
-
-is-new : (c : At) → T (formed 4 (new c))
-is-new c = c .before .before .before .before .before .before .before .before .pre .1
-
-folding : (c : At) → Folding (vanishing c) (after c) (linesOf (new c)) ((old c) .variables) (linesOf (old c)) (index c) (table c)
-folding c = c .before .before .loop .inv .1
-
-below : (c : At) → index c < (new c) .lines
-below c = c .before .loop-test .taken
-
-in-new : (c : At) → (index c < length (after c)) × (index c < length ((new c) .counts)) × (index c < length ((new c) .weights)) × (index c < length (linesOf (new c)))
-in-new c =
-    let p : Formed 4 (new c) = formed-parts 4 (new c) (is-new c) in
-    omega (arith, below c, table-length 4 (new c) (is-new c), c .before .before .before .before .before .before .before .before .pre .3, p .room, p .counts-length, p .weights-length)
-
-this : (c : At) → getD (linesOf (new c)) (index c) none ≡ line (polynomial c) (amount c)
-this c = line-here 4 (new c) (is-new c) (index c) (below c)
-
-is-polynomial : (c : At) → T (isPolynomial ((old c) .variables) (polynomial c))
-is-polynomial c =
-    let e = c .before .before .before .before .before .before .before .before .pre .2 in
-    subst (λ (n : ℕ). T (isPolynomial n (polynomial c))) e (row-polynomial 4 (new c) (is-new c) (index c) (below c))
-
-long : (c : At) → length ((table c) .counts) ≡ 128
-long c = formed-parts 128 (table c) (folding c .is-formed) .counts-length
-
-is-chosen : (c : tie.Then1 Inv-loop μ-loop) → Bool·beq (isZero (getD (after (c .before)) (index (c .before)) (pos 0))) (vanishing (c .before)) ≡ true
-is-chosen c = ap (λ (b : Bool). Bool·beq b (vanishing (c .before))) (sym (zero-bits (getD (after (c .before)) (index (c .before)) (pos 0)) (c .before .vanishes .given))) ∙ c .if1 .taken
-
-not-chosen : (c : tie.Else1 Inv-loop μ-loop) → Bool·beq (isZero (getD (after (c .before)) (index (c .before)) (pos 0))) (vanishing (c .before)) ≡ false
-not-chosen c = ap (λ (b : Bool). Bool·beq b (vanishing (c .before))) (sym (zero-bits (getD (after (c .before)) (index (c .before)) (pos 0)) (c .before .vanishes .given))) ∙ c .if1 .left
+here : (c : tie.After-row-at Inv-loop μ-loop)
+    → let b = c .before .before .before in let a = start b .args in Read (new b) (place b) (a .new-terms .now) (a .new-weights .now) (a .new-counts .now) (c .row-at .result)
+here c =
+    let b = c .before .before .before in
+    let a = start b .args in
+    read 4 (a .new) (a .new-index .now) (a .new-terms .now) (a .new-weights .now) (a .new-counts .now) (start b .pre .2) (is-new b) (place b) (below b) (c .row-at .result) (c .row-at .ensures)
 
 mul-count : tie.Need-mul-count Inv-loop μ-loop
-mul-count c = search needs
+mul-count c = omega (arith, here c .low)
 
 shared-slice-read-count : tie.Need-shared-slice-read-count Inv-loop μ-loop
-shared-slice-read-count c = in-new (c .before .before) .1
+shared-slice-read-count c = here (c .before) .in-counts
 
 cast-count : tie.Need-cast-count Inv-loop μ-loop
-cast-count c = omega (arith, c .shared-slice-known3 .given (index (c .before .before)))
+cast-count c = omega (arith, c .shared-slice-known4 .given (c .before .row-at .result))
 
 row-requires : tie.Need-row-requires Inv-loop μ-loop
-row-requires c κs =
-    let a = c .before .before .before .before .before in
-    row-fits 4 (new a) (is-new a) (index a) (below a)
+row-requires c κs = here (c .before .before .before .before .before) .in-terms
 
 mul-fold-in : tie.Need-mul-fold-in Inv-loop μ-loop
-mul-fold-in c = search needs
+mul-fold-in c = omega (arith, here (c .before .before .before .before .before .before) .low)
 
 shared-slice-copy-out-fold-in : tie.Need-shared-slice-copy-out-fold-in Inv-loop μ-loop
-shared-slice-copy-out-fold-in c = in-new (c .before .before .before .before .before .before) .2
+shared-slice-copy-out-fold-in c = here (c .before .before .before .before .before .before) .in-weights
 
-found : (c : At) (f : List ℕ) (w : ℤ) → f ≡ polynomial c → w ≡ amount c → getD (linesOf (new c)) (index c) none ≡ line f w
-found c f w e d = this c ∙ ap₂ line (sym e) (sym d)
-
--- what is asked for a chosen line
-asked : (c : tie.Then1 Inv-loop μ-loop) (f : List ℕ) (w : ℤ) → f ≡ polynomial (c .before) → w ≡ amount (c .before)
-    → T (formed (length ((table (c .before)) .counts)) (table (c .before))) × T (isPolynomial ((table (c .before)) .variables) f)
-    × (mag (weight (linesOf (table (c .before))) f +ℤ w) < 2 ^ 63) × (length (add f w (linesOf (table (c .before)))) ≤ length ((table (c .before)) .counts))
-    × (length ((table (c .before)) .counts) ≤ 128)
-asked c f w e d =
-    let a = c .before in
-    let g = folding a in
-    let i = in-new a in
-    let q : T (isPolynomial ((table a) .variables) f) =
-    subst (λ (n : ℕ). T (isPolynomial n f)) (sym (g .variables-are)) (subst (λ (p : List ℕ). T (isPolynomial ((old a) .variables) p)) (sym e) (is-polynomial a)) in
-    fold-asks (length ((table a) .counts)) 128 (long a) (table a) f w (omega arith) (g .is-formed) q
-    (folding-fits (vanishing a) (after a) (linesOf (new a)) ((old a) .variables) (linesOf (old a)) (index a) (table a) g (i .0) (i .3) f w (found a f w e d) (is-chosen c))
-    (folding-room (vanishing a) (after a) (linesOf (new a)) ((old a) .variables) (linesOf (old a)) (index a) (table a) g (i .0) (i .3) f w (found a f w e d) (is-chosen c))
+-- what the code reads of a chosen line: its polynomial f and its amount w
+found : (c : In) (f : List ℕ) (w : ℤ) → f ≡ polynomial c → w ≡ amount c → getD (linesOf (new c)) (place c) none ≡ line f w
+found c f w e d = line-here 4 (new c) (is-new c) (place c) (below c) ∙ ap₂ line (sym e) (sym d)
 
 fold-in-requires : tie.Need-fold-in-requires Inv-loop μ-loop
 fold-in-requires c κs =
-    let k = c .before .before .before .before .before .before in
-    asked k (c .before .row .result .now) (toZ w64 (ofZ w64 (amount (k .before)))) (c .before .row .ensures) (read-back (amount (k .before)) (c .fold-in-arg4 .given))
+    let r = c .before .before .before .before .before .before .before in
+    let k = r .before in
+    let a = k .before .before in
+    let l = a .before .loop in
+    let g = folding a in
+    let i = in-new a in
+    let f = c .before .row .result .now in
+    let w = toZ w64 (ofZ w64 (getD (start a .args .new-weights .now) (r .row-at .result) (pos 0))) in
+    let e : f ≡ polynomial a = c .before .row .ensures ∙ here r .terms-are in
+    let d : w ≡ amount a = read-back (getD (start a .args .new-weights .now) (r .row-at .result) (pos 0)) (c .fold-in-arg5 .given) ∙ here r .weight-is in
+    let q : T (isPolynomial (l .held .variables) f) =
+    subst (λ (n : ℕ). T (isPolynomial n f)) (sym (g .variables-are)) (subst (λ (p : List ℕ). T (isPolynomial ((old a) .variables) p)) (sym e) (is-polynomial a)) in
+    fold-asks (length (l .counts)) 128 (l .inv .2 .counts-length) (l .held) (l .index) (l .terms) (l .weights) (l .counts) f w (l .inv .2) (g .is-formed) q
+    (folding-fits g (i .0) (i .1) f w (found a f w e d) (is-chosen k)) (folding-room g (i .0) (i .1) f w (found a f w e d) (is-chosen k))
 
 add-i : tie.Need-add-i Inv-loop μ-loop
 add-i c = search needs
 
 loop-less : tie.Need-loop-less Inv-loop μ-loop
-loop-less c = omega (arith, below (c .before))
+loop-less c = omega (arith, below (c .before .before))
+
+-- what holds of the table when line `i` is done
+abbrev Next : In → Head → List ℕ → List ℕ → List ℤ → List ℕ → Type 0
+Next c h is ts ws cs = Folding (vanishing c) (after c) (linesOf (new c)) ((old c) .variables) (linesOf (old c)) (place c + 1) (indexedOf h is ts ws cs) × Kept 128 h is ts ws cs
 
 loop-again : tie.Need-loop-again Inv-loop μ-loop
 loop-again c =
-    let a = c .before in
+    let a = c .before .before in
+    let l = a .before .loop in
     let i = in-new a in
     let g = folding a in
-    let n = (old a) .variables in (
-      omega (arith, below a),
-      ⊎-elim
-          (λ w.
-          let k : tie.Then1 Inv-loop μ-loop = record { before = a; if1 = w .0 } in
-          let r = w .7 in
-          let f = w .5 .result .now in
-          let u = toZ w64 (ofZ w64 (amount a)) in
-          let e : f ≡ polynomial a = w .5 .ensures in
-          let d : u ≡ amount a = read-back (amount a) (w .6 .given) in
-          let m = memoryOf (r .result) (r .last .1 .0) (r .last .1 .1 .0) (r .last .1 .1 .1 .0) in
-          let x : m ≡ imageOf 128 ((table a) .variables) (add f u (linesOf (table a))) =
-          fold-gives (length ((table a) .counts)) 128 (long a) m ((table a) .variables) (add f u (linesOf (table a))) (r .ensures) in
-          let y : memoryOf (c .if1 .held) (c .if1 .terms) (c .if1 .weights) (c .if1 .counts) ≡ m = λ j. memoryOf (w .16 j) (w .13 j) (w .14 j) (w .15 j) in
-          folding-more (vanishing a) (after a) (linesOf (new a)) n (linesOf (old a)) (index a) (table a) g (i .0) (i .3) f u (found a f u e d) (is-chosen k)
-          (memoryOf (c .if1 .held) (c .if1 .terms) (c .if1 .weights) (c .if1 .counts)) (subst (λ (p : List ℕ). T (isPolynomial n p)) (sym e) (is-polynomial a)) (y ∙ x))
-          (λ w.
-          let k : tie.Else1 Inv-loop μ-loop = record { before = a; if1 = w .0 } in
-          let y : memoryOf (c .if1 .held) (c .if1 .terms) (c .if1 .weights) (c .if1 .counts) ≡ table a = λ j. memoryOf (w .4 j) (w .1 j) (w .2 j) (w .3 j) in
-          subst (λ (m : Memory). Folding (vanishing a) (after a) (linesOf (new a)) n (linesOf (old a)) (index a + 1) m) (sym y)
-          (folding-skip (vanishing a) (after a) (linesOf (new a)) n (linesOf (old a)) (index a) (table a) g (i .0) (i .3) (not-chosen k)))
-          (c .if1 .came),
-    )
+    let d : Next a (c .if1 .held) (c .if1 .index) (c .if1 .terms) (c .if1 .weights) (c .if1 .counts) = ⊎-elim
+    (λ w.
+    let k : tie.Then1 Inv-loop μ-loop = record { before = c .before; if1 = w .0 } in
+    let r : tie.After-row-at Inv-loop μ-loop = record { before = k; row-at = w .1 } in
+    let f = w .7 .result .now in
+    let x = getD (start a .args .new-weights .now) (r .row-at .result) (pos 0) in
+    let u = toZ w64 (ofZ w64 x) in
+    let e : f ≡ polynomial a = w .7 .ensures ∙ here r .terms-are in
+    let d : u ≡ amount a = read-back x (w .8 .given) ∙ here r .weight-is in
+    let z = w .9 in
+    let t = fold-gives (length (l .counts)) 128 (l .inv .2 .counts-length) (z .result) (z .last .1 .0) (z .last .1 .1 .0) (z .last .1 .1 .1 .0) (z .last .1 .1 .1 .1 .0)
+    (l .held .variables) (add f u (linesOf (table a))) (z .ensures) in
+    let q : T (isPolynomial ((old a) .variables) f) = subst (λ (p : List ℕ). T (isPolynomial ((old a) .variables) p)) (sym e) (is-polynomial a) in
+    coe 1 0 (j. Next a (w .21 j) (w .17 j) (w .18 j) (w .19 j) (w .20 j)) (folding-more g (i .0) (i .1) f u (found a f u e d) (is-chosen k) _ q (t .0), t .1))
+    (λ w.
+    let k : tie.Else1 Inv-loop μ-loop = record { before = c .before; if1 = w .0 } in
+    coe 1 0 (j. Next a (w .5 j) (w .1 j) (w .2 j) (w .3 j) (w .4 j)) (folding-skip g (i .0) (i .1) (not-chosen k), l .inv .2))
+    (c .if1 .came) in
+    (omega (arith, below a), d .0, d .1)
 
 same-length : tie.Need-same-length Inv-loop μ-loop
-same-length c =
-    let s = c .before .before .before .before .before .before .before in
-    let l = c .before .loop in
-    formed-parts 128 (memoryOf (l .held) (l .terms) (l .weights) (l .counts)) (l .inv .1 .is-formed) .terms-length
-    ∙ sym (formed-parts 128 (memoryOf (s .args .head) (s .args .terms .now) (s .args .weights .now) (s .args .counts .now)) (s .pre .0) .terms-length)
+same-length c = c .before .loop .inv .2 .entries ∙ sym (c .before .before .before .before .before .before .before .before .before .pre .0 .entries)
 
 same-length-2 : tie.Need-same-length-2 Inv-loop μ-loop
-same-length-2 c =
-    let s = c .before .before .before .before .before .before .before in
-    let l = c .before .loop in
-    formed-parts 128 (memoryOf (l .held) (l .terms) (l .weights) (l .counts)) (l .inv .1 .is-formed) .weights-length
-    ∙ sym (formed-parts 128 (memoryOf (s .args .head) (s .args .terms .now) (s .args .weights .now) (s .args .counts .now)) (s .pre .0) .weights-length)
+same-length-2 c = c .before .loop .inv .2 .terms-length ∙ sym (c .before .before .before .before .before .before .before .before .before .pre .0 .terms-length)
 
 same-length-3 : tie.Need-same-length-3 Inv-loop μ-loop
-same-length-3 c =
-    let s = c .before .before .before .before .before .before .before in
-    let l = c .before .loop in
-    formed-parts 128 (memoryOf (l .held) (l .terms) (l .weights) (l .counts)) (l .inv .1 .is-formed) .counts-length
-    ∙ sym (formed-parts 128 (memoryOf (s .args .head) (s .args .terms .now) (s .args .weights .now) (s .args .counts .now)) (s .pre .0) .counts-length)
+same-length-3 c = c .before .loop .inv .2 .weights-length ∙ sym (c .before .before .before .before .before .before .before .before .before .pre .0 .weights-length)
+
+same-length-4 : tie.Need-same-length-4 Inv-loop μ-loop
+same-length-4 c = c .before .loop .inv .2 .counts-length ∙ sym (c .before .before .before .before .before .before .before .before .before .pre .0 .counts-length)
 
 returns : tie.Need-returns Inv-loop μ-loop
 returns c =
-    let s = c .before .before .before .before .before .before .before in
-    let a = s .args in
+    let s = c .before .before .before .before .before .before .before .before .before in
     let l = c .before .loop in
-    folding-all (a .vanishing) (a .after .now) (linesIn (a .new) (a .new-terms .now) (a .new-weights .now) (a .new-counts .now)) (a .head .variables)
-    (linesIn (a .head) (a .terms .now) (a .weights .now) (a .counts .now)) (l .i) (memoryOf (l .held) (l .terms) (l .weights) (l .counts))
-    (omega (arith, c .loop-test .left, s .pre .3)) (l .inv .1)
+    (folding-all (indexedOf (l .held) (l .index) (l .terms) (l .weights) (l .counts)) (omega (arith, c .loop-test .left, s .pre .5)) (l .inv .1), l .inv .2)
 
 pub fold-chosen-spec : {M : Type 1} → statement M
 fold-chosen-spec =
@@ -231,6 +232,7 @@ fold-chosen-spec =
     loop-holds
     mul-vanishes
     shared-slice-copy-out-vanishes
+    row-at-requires
     mul-count
     shared-slice-read-count
     cast-count
@@ -244,4 +246,5 @@ fold-chosen-spec =
     same-length
     same-length-2
     same-length-3
+    same-length-4
     returns)

@@ -10,28 +10,28 @@ use lib.ListN.{length, getD, take, drop, length-set}
 use mir.Syntax.{w64}
 use mir.Val.{toZ, ofZ}
 use borrow.Author.Needs.{needs}
-use Rattle.run.specs.Boolean.{left}
 use Rattle.configuration.specs.Weight.{limit}
 use Rattle.configuration.specs.Configuration.{some, weight, weightsFit}
-use Rattle.configuration.specs.Memory.{Memory, memoryOf, linesOf, linesIn, readLines, formed}
+use Rattle.configuration.specs.Memory.{Memory, linesOf, readLines, formed}
+use Rattle.configuration.specs.Index.{arranged, indexedOf, linesBy, Kept}
 use Rattle.configuration.specs.Replacement.{weightsBefore, weightsAfter}
 use Rattle.configuration.specs.PlaceLaws.{fit-weight}
-use Rattle.configuration.specs.MemoryLaws.{well-formed, weights-bound, Formed, formed-parts, length-lines}
+use Rattle.configuration.specs.MemoryLaws.{well-formed, weights-bound, formed-parts}
 use Rattle.configuration.specs.ReplacementLaws.{in-range-mag}
 use Rattle.configuration.proofs.Areas.{read-back}
 use Rattle.configuration.proofs.Forms.{rowAt}
-use Rattle.configuration.proofs.Replacements.{row-fits, line-here, row-some, table-ordered, table-length, small-at, sum-fits, sum-is, weigh-more, weigh-all}
+use Rattle.configuration.proofs.Replacements.{line-here, row-some, table-ordered, table-length, Read, read, in-index, small-at, sum-fits, sum-is, weigh-more, weigh-all}
 use Rattle.configuration.proofs.replace.weigh.Statement.{statement}
 use Rattle.configuration.proofs.replace.weigh.Tie as tie
 
 abbrev Inv-loop : tie.InvT-loop
-Inv-loop head terms weights counts new-terms new-weights new-counts before₀ after₀ lines i₀ before after i =
-    let N = readLines lines new-terms new-weights new-counts in
-    let L = linesIn head terms weights counts in
+Inv-loop head index terms weights counts new-index new-terms new-weights new-counts before₀ after₀ lines i₀ before after i =
+    let N = readLines lines (arranged 64 new-index new-terms) (arranged 1 new-index new-weights) (arranged 1 new-index new-counts) in
+    let L = linesBy head index terms weights counts in
     (i ≤ lines) × (length before ≡ 4) × (length after ≡ 4) × (take i before ++ weightsBefore (drop i N) L ≡ weightsBefore N L) × (take i after ++ weightsAfter (drop i N) L ≡ weightsAfter N L)
 
 abbrev μ-loop : tie.MeasureT-loop
-μ-loop head terms weights counts new-terms new-weights new-counts before₀ after₀ lines i₀ before after i =
+μ-loop head index terms weights counts new-index new-terms new-weights new-counts before₀ after₀ lines i₀ before after i =
     lines - i
 
 cast-lines : tie.Need-cast-lines Inv-loop μ-loop
@@ -40,137 +40,165 @@ cast-lines c = search needs
 loop-holds : tie.Need-loop-holds Inv-loop μ-loop
 loop-holds c = (omega arith, refl, refl, refl, refl)
 
-mul-count : tie.Need-mul-count Inv-loop μ-loop
-mul-count c = search needs
-
 -- ---- line `i` of the new table
 abbrev At : Type 0
-At = tie.After-shared-slice-known5 Inv-loop μ-loop
+At = tie.In-loop Inv-loop μ-loop
+
+abbrev start : At → tie.Start Inv-loop μ-loop
+start c = c .before .before .before .before .before .before .before .before .before
 
 abbrev old : At → Memory
 old c =
-    let a = c .before .before .before .before .before .before .before .before .args in
-    memoryOf (a .head) (a .terms .now) (a .weights .now) (a .counts .now)
+    let a = start c .args in
+    indexedOf (a .head) (a .index .now) (a .terms .now) (a .weights .now) (a .counts .now)
 
 abbrev new : At → Memory
 new c =
-    let a = c .before .before .before .before .before .before .before .before .args in
-    memoryOf (a .new) (a .new-terms .now) (a .new-weights .now) (a .new-counts .now)
+    let a = start c .args in
+    indexedOf (a .new) (a .new-index .now) (a .new-terms .now) (a .new-weights .now) (a .new-counts .now)
 
-abbrev index : At → ℕ
-index c = c .before .before .loop .i
+abbrev place : At → ℕ
+place c = c .before .loop .i
 
 abbrev polynomial : At → List ℕ
-polynomial c = rowAt ((new c) .terms) ((new c) .counts) (index c)
+polynomial c = rowAt ((new c) .terms) ((new c) .counts) (place c)
 
 abbrev amount : At → ℤ
-amount c = getD ((new c) .weights) (index c) (pos 0)
+amount c = getD ((new c) .weights) (place c) (pos 0)
 
 is-old : (c : At) → T (formed 128 (old c))
-is-old c = well-formed (old c) (c .before .before .before .before .before .before .before .before .pre .0)
+is-old c = well-formed (old c) (start c .pre .1)
 
 is-new : (c : At) → T (formed 4 (new c))
-is-new c = c .before .before .before .before .before .before .before .before .pre .1
+is-new c = start c .pre .3
 
-below : (c : At) → index c < (new c) .lines
-below c = c .before .loop-test .taken
+below : (c : At) → place c < (new c) .lines
+below c = c .loop-test .taken
 
-in-new : (c : At) → (index c < 4) × (index c < length ((new c) .counts)) × (index c < length ((new c) .weights)) × (index c < length (linesOf (new c)))
-in-new c =
-    let p : Formed 4 (new c) = formed-parts 4 (new c) (is-new c) in
-    omega (arith, below c, table-length 4 (new c) (is-new c), p .room, p .counts-length, p .weights-length)
+in-new : (c : At) → (place c < 4) × (place c < length (linesOf (new c)))
+in-new c = omega (arith, below c, table-length 4 (new c) (is-new c), formed-parts 4 (new c) (is-new c) .room)
 
 held-mag : (c : At) → mag (weight (linesOf (old c)) (polynomial c)) ≤ limit
 held-mag c =
-    let w : T (weightsFit (linesOf (old c))) = weights-bound (old c) (c .before .before .before .before .before .before .before .before .pre .0) in
+    let w : T (weightsFit (linesOf (old c))) = weights-bound (old c) (start c .pre .1) in
     in-range-mag (weight (linesOf (old c)) (polynomial c)) (fit-weight (linesOf (old c)) (table-ordered 128 (old c) (is-old c)) w (polynomial c))
 
 amount-mag : (c : At) → mag (amount c) < 2 ^ 45
-amount-mag c = small-at 45 (polynomial c) (amount c) (index c) (linesOf (new c)) (c .before .before .before .before .before .before .before .before .pre .2) (in-new c .3) (line-here 4 (new c) (is-new c) (index c) (below c))
+amount-mag c = small-at 45 (polynomial c) (amount c) (place c) (linesOf (new c)) (start c .pre .4) (in-new c .1) (line-here 4 (new c) (is-new c) (place c) (below c))
+
+row-at-requires : tie.Need-row-at-requires Inv-loop μ-loop
+row-at-requires c κs =
+    let a = start c .args in
+    in-index 4 (a .new) (a .new-index .now) (a .new-terms .now) (a .new-weights .now) (a .new-counts .now) (start c .pre .2) (is-new c) (place c) (below c)
+
+here : (c : tie.After-row-at Inv-loop μ-loop)
+    → let a = start (c .before) .args in Read (new (c .before)) (place (c .before)) (a .new-terms .now) (a .new-weights .now) (a .new-counts .now) (c .row-at .result)
+here c =
+    let b = c .before in
+    let a = start b .args in
+    read 4 (a .new) (a .new-index .now) (a .new-terms .now) (a .new-weights .now) (a .new-counts .now) (start b .pre .2) (is-new b) (place b) (below b) (c .row-at .result) (c .row-at .ensures)
+
+mul-count : tie.Need-mul-count Inv-loop μ-loop
+mul-count c = omega (arith, here c .low)
 
 shared-slice-read-count : tie.Need-shared-slice-read-count Inv-loop μ-loop
-shared-slice-read-count c = in-new c .1
+shared-slice-read-count c = here (c .before) .in-counts
 
 cast-count : tie.Need-cast-count Inv-loop μ-loop
-cast-count c = omega (arith, c .shared-slice-known5 .given (index c))
+cast-count c = omega (arith, c .shared-slice-known7 .given (c .before .row-at .result))
 
 row-requires : tie.Need-row-requires Inv-loop μ-loop
-row-requires c κs = row-fits 4 (new c) (is-new c) (index c) (below c)
+row-requires c κs = here (c .before) .in-terms
+
+-- the polynomial that the code reads
+read-row : (c : tie.After-row Inv-loop μ-loop) → c .row .result .now ≡ polynomial (c .before .before .before)
+read-row c = c .row .ensures ∙ here (c .before .before) .terms-are
 
 weight-of-requires : tie.Need-weight-of-requires Inv-loop μ-loop
 weight-of-requires c κs =
-    let a = c .before in (
-      subst (λ (n : ℕ). T (formed n (old a))) (sym (formed-parts 128 (old a) (is-old a) .counts-length)) (is-old a),
-      subst (λ (f : List ℕ). T (some f)) (sym (c .row .ensures)) (row-some 4 (new a) (is-new a) (index a) (below a)),
+    let a = c .before .before .before in
+    let s = start a in
+    let e = s .pre .0 .counts-length in (
+      subst (λ (n : ℕ). Kept n (s .args .head) (s .args .index .now) (s .args .terms .now) (s .args .weights .now) (s .args .counts .now)) (sym e) (s .pre .0),
+      subst (λ (n : ℕ). T (formed n (old a))) (sym e) (is-old a),
+      subst (λ (f : List ℕ). T (some f)) (sym (read-row c)) (row-some 4 (new a) (is-new a) (place a) (below a)),
     )
 
 -- the weights that the code finds
-found : (c : tie.After-weight-of Inv-loop μ-loop) → toZ w64 (ofZ w64 (c .weight-of .result)) ≡ weight (linesOf (old (c .before .before))) (polynomial (c .before .before))
+found : (c : tie.After-weight-of Inv-loop μ-loop)
+    → toZ w64 (ofZ w64 (c .weight-of .result)) ≡ weight (linesOf (old (c .before .before .before .before))) (polynomial (c .before .before .before .before))
 found c =
-    let a = c .before .before in
-    let e : c .weight-of .result ≡ weight (linesOf (old a)) (polynomial a) = c .weight-of .ensures ∙ ap (weight (linesOf (old a))) (c .before .row .ensures) in
+    let a = c .before .before .before .before in
+    let e : c .weight-of .result ≡ weight (linesOf (old a)) (polynomial a) =
+    subst (λ (f : List ℕ). c .weight-of .result ≡ weight (linesOf (old a)) f) (read-row (c .before)) (c .weight-of .ensures) in
     ap (λ (z : ℤ). toZ w64 (ofZ w64 z)) e ∙ read-back (weight (linesOf (old a)) (polynomial a)) (omega (arith, held-mag a))
 
-read : (c : At) → toZ w64 (ofZ w64 (amount c)) ≡ amount c
-read c = read-back (amount c) (omega (arith, amount-mag c))
+read-amount : (c : tie.After-row-at Inv-loop μ-loop)
+    → toZ w64 (ofZ w64 (getD (start (c .before) .args .new-weights .now) (c .row-at .result) (pos 0))) ≡ amount (c .before)
+read-amount c = ap (λ (z : ℤ). toZ w64 (ofZ w64 z)) (here c .weight-is) ∙ read-back (amount (c .before)) (omega (arith, amount-mag (c .before)))
 
 mul-before : tie.Need-mul-before Inv-loop μ-loop
-mul-before c = search needs
+mul-before c = omega (arith, in-new (c .before .before .before .before) .0)
 
 array-set-from-before : tie.Need-array-set-from-before Inv-loop μ-loop
-array-set-from-before c = omega (arith, in-new (c .before .before) .0, c .before .before .before .before .loop .inv .1)
+array-set-from-before c = in-new (c .before .before .before .before) .0
 
 mul-after : tie.Need-mul-after Inv-loop μ-loop
-mul-after c = search needs
+mul-after c = omega (arith, here (c .before .before .before) .low)
 
 shared-slice-copy-out-after : tie.Need-shared-slice-copy-out-after Inv-loop μ-loop
-shared-slice-copy-out-after c = in-new (c .before .before) .2
+shared-slice-copy-out-after c = here (c .before .before .before) .in-weights
 
 add-after : tie.Need-add-after Inv-loop μ-loop
 add-after c =
-    let a = c .before .before .before in
-    sum-fits _ _ (weight (linesOf (old a)) (polynomial a)) (amount a) (found (c .before)) (read a) (held-mag a) (amount-mag a)
+    let w = c .before in
+    let r = w .before .before .before in
+    let a = r .before in
+    sum-fits _ _ (weight (linesOf (old a)) (polynomial a)) (amount a) (found w) (read-amount r) (held-mag a) (amount-mag a)
 
 mul-after-2 : tie.Need-mul-after-2 Inv-loop μ-loop
-mul-after-2 c = search needs
+mul-after-2 c = omega (arith, in-new (c .before .before .before .before .before) .0)
 
 array-set-from-after : tie.Need-array-set-from-after Inv-loop μ-loop
-array-set-from-after c = omega (arith, in-new (c .before .before .before) .0, c .before .before .before .before .before .loop .inv .2)
+array-set-from-after c = in-new (c .before .before .before .before .before) .0
 
 add-i : tie.Need-add-i Inv-loop μ-loop
-add-i c = omega (arith, in-new (c .before .before .before) .0)
+add-i c = omega (arith, in-new (c .before .before .before .before .before) .0)
 
 loop-less : tie.Need-loop-less Inv-loop μ-loop
-loop-less c = omega (arith, below (c .before .before .before))
+loop-less c = omega (arith, below (c .before .before .before .before .before))
 
 loop-again : tie.Need-loop-again Inv-loop μ-loop
 unfolding weightsBefore weightsAfter
 loop-again c =
-    let a = c .before .before .before in
-    let l = c .before .before .before .before .before .loop in
-    let h = line-here 4 (new a) (is-new a) (index a) (below a) in
+    let w = c .before in
+    let r = w .before .before .before in
+    let a = r .before in
+    let l = a .before .loop in
+    let h = line-here 4 (new a) (is-new a) (place a) (below a) in
     let i = in-new a in
-    let s = sum-is _ _ (weight (linesOf (old a)) (polynomial a)) (amount a) (found (c .before)) (read a) (held-mag a) (amount-mag a) in (
+    let s = sum-is _ _ (weight (linesOf (old a)) (polynomial a)) (amount a) (found w) (read-amount r) (held-mag a) (amount-mag a) in (
       omega (arith, below a),
-      length-set (l .before) (index a) _ ∙ l .inv .1,
-      length-set (l .after) (index a) _ ∙ l .inv .2,
-      weigh-more (λ N. weightsBefore N (linesOf (old a))) (λ f w. weight (linesOf (old a)) f) refl (λ f w N. refl) (linesOf (new a)) (index a) (l .before) (l .inv .3)
-          (polynomial a) (amount a) _ (i .3) (omega (arith, i .0, l .inv .1)) h (found (c .before)),
-      weigh-more (λ N. weightsAfter N (linesOf (old a))) (λ f w. weight (linesOf (old a)) f +ℤ w) refl (λ f w N. refl) (linesOf (new a)) (index a) (l .after) (l .inv .4)
-          (polynomial a) (amount a) _ (i .3) (omega (arith, i .0, l .inv .2)) h s,
+      length-set (l .before) (place a) _ ∙ l .inv .1,
+      length-set (l .after) (place a) _ ∙ l .inv .2,
+      weigh-more (λ N. weightsBefore N (linesOf (old a))) (λ f w. weight (linesOf (old a)) f) refl (λ f w N. refl) (linesOf (new a)) (place a) (l .before) (l .inv .3)
+          (polynomial a) (amount a) _ (i .1) (omega (arith, i .0, l .inv .1)) h (found w),
+      weigh-more (λ N. weightsAfter N (linesOf (old a))) (λ f w. weight (linesOf (old a)) f +ℤ w) refl (λ f w N. refl) (linesOf (new a)) (place a) (l .after) (l .inv .4)
+          (polynomial a) (amount a) _ (i .1) (omega (arith, i .0, l .inv .2)) h s,
     )
 
 returns : tie.Need-returns Inv-loop μ-loop
 unfolding weightsBefore weightsAfter
 returns c =
     let l = c .before .loop in
-    let a = c .before .before .before .before .before .before .before .args in
-    let L = linesIn (a .head) (a .terms .now) (a .weights .now) (a .counts .now) in
-    let N = linesIn (a .new) (a .new-terms .now) (a .new-weights .now) (a .new-counts .now) in
+    let s = c .before .before .before .before .before .before .before .before .before in
+    let a = s .args in
+    let L = linesBy (a .head) (a .index .now) (a .terms .now) (a .weights .now) (a .counts .now) in
+    let m = indexedOf (a .new) (a .new-index .now) (a .new-terms .now) (a .new-weights .now) (a .new-counts .now) in
     let e : l .i ≡ a .new .lines = omega (arith, l .inv .0, c .loop-test .left) in
-    let h : length N ≤ l .i = omega (arith, length-lines (a .new .lines) (a .new-terms .now) (a .new-weights .now) (a .new-counts .now)) in (
-      weigh-all (λ N. weightsBefore N L) (λ f w. weight L f) refl (λ f w N. refl) N (l .i) (l .before) (l .inv .3) (a .new .lines) e h,
-      weigh-all (λ N. weightsAfter N L) (λ f w. weight L f +ℤ w) refl (λ f w N. refl) N (l .i) (l .after) (l .inv .4) (a .new .lines) e h,
+    let h : length (linesOf m) ≤ l .i = omega (arith, table-length 4 m (s .pre .3)) in (
+      weigh-all (λ N. weightsBefore N L) (λ f w. weight L f) refl (λ f w N. refl) (linesOf m) (l .i) (l .before) (l .inv .3) (a .new .lines) e h,
+      weigh-all (λ N. weightsAfter N L) (λ f w. weight L f +ℤ w) refl (λ f w N. refl) (linesOf m) (l .i) (l .after) (l .inv .4) (a .new .lines) e h,
     )
 
 pub weigh-spec : {M : Type 1} → statement M
@@ -181,6 +209,7 @@ weigh-spec =
     μ-loop
     cast-lines
     loop-holds
+    row-at-requires
     mul-count
     shared-slice-read-count
     cast-count

@@ -1,125 +1,164 @@
--- `find` meets its contract. The invariant: the table is that of the degrees, the place lies between the bounds, and `f` stands before the
--- line at the upper one.
-use mathlib.Core.Path.{_≡_, sym, ap, _∙_}
-use Prim.Native.Nat.{ℕ, _+_, _-_, _/_, _<_}
+-- `find` meets its contract. The invariant: the place lies between the bounds, `f` stands before the line at the upper one, and the line that is
+-- looked at lies between them.
+use mathlib.Core.Path.{_≡_, sym, _∙_}
+use mathlib.Core.Logic.{⊎-elim}
+use Prim.Native.Nat.{_-_, _<_, _≤_}
 use native.Mathlib.Omega.{arith}
+use lib.Dec.{T}
 use lib.ListN.{length}
 use denote.Ref.{now}
 use borrow.Author.Needs.{needs}
-use Rattle.term.specs.Term.{byteDegrees}
 use Rattle.polynomial.specs.Polynomial.{orderOf}
-use Rattle.configuration.specs.Configuration.{Ordered}
-use Rattle.configuration.specs.ConfigurationLaws.{fit-ordered}
-use Rattle.configuration.specs.Memory.{Memory, memoryOf, linesOf}
-use Rattle.configuration.specs.MemoryLaws.{Formed, formed-parts}
-use Rattle.configuration.proofs.Forms.{laid-short, rowAt}
-use Rattle.configuration.proofs.Tables.{Between, everywhere, lower, upper, found, missing}
+use Rattle.configuration.specs.Configuration.{some}
+use Rattle.configuration.specs.Index.{arranged, firstKey}
+use Rattle.configuration.proofs.Forms.{rowAt}
+use Rattle.configuration.proofs.Tables.{Between, lower, upper, found, missing, some-of, first-key, row-in-table}
+use Rattle.configuration.proofs.Searches.{zero-place, kept-ordered, lines-indexed, falling, in-capacity, count-short, line-is, line-some, line-keyed, starts}
 use Rattle.configuration.proofs.table.find.Statement.{statement}
 use Rattle.configuration.proofs.table.find.Tie as tie
 
 abbrev Inv-loop : tie.InvT-loop
-Inv-loop terms weights counts f table low₀ high₀ low high = (table ≡ byteDegrees) × Between f high₀ terms weights counts low high
+Inv-loop index terms weights counts f table first high₀ low₀ middle₀ high low middle =
+    Between f high₀ (arranged 64 index terms) (arranged 1 index weights) (arranged 1 index counts) low high × (low ≤ middle) × (low < high → middle < high)
 
 abbrev μ-loop : tie.MeasureT-loop
-μ-loop terms weights counts f table low₀ high₀ low high = high - low
+μ-loop index terms weights counts f table first high₀ low₀ middle₀ high low middle = high - low
 
-abbrev memory : tie.Start Inv-loop μ-loop → Memory
-memory s = memoryOf (s .args .head) (now (s .args .terms)) (now (s .args .weights)) (now (s .args .counts))
+-- the start, and the turn that a comparison belongs to
+abbrev begun : tie.After-ahead Inv-loop μ-loop → tie.Start Inv-loop μ-loop
+begun c = c .before .before .before .before .before .before .before .before .before .before
 
-parts : (s : tie.Start Inv-loop μ-loop) → Formed (length (now (s .args .counts))) (memory s)
-parts s = formed-parts _ _ (s .pre)
+abbrev turn : tie.After-order-at Inv-loop μ-loop → tie.In-loop Inv-loop μ-loop
+turn c = c .before .before .before
 
-ordered : (s : tie.Start Inv-loop μ-loop) → Ordered (linesOf (memory s))
-ordered s = fit-ordered _ _ (parts s .fit)
+some-f : (c : tie.After-ahead Inv-loop μ-loop) → T (some (now (begun c .args .f)))
+some-f c = some-of (now (begun c .args .f)) (c .before .before .before .before .before .if1 .left)
 
--- the line in the middle
-abbrev middle : tie.In-loop Inv-loop μ-loop → ℕ
-middle c = c .before .loop .low + (c .before .loop .high - c .before .loop .low) / 2
+first-is : (c : tie.After-ahead Inv-loop μ-loop) → c .before .before .key .result ≡ firstKey (now (begun c .args .f))
+first-is c = c .before .before .key .ensures .0 ∙ first-key (now (begun c .args .f)) (some-f c)
 
--- the turn that a comparison belongs to
-abbrev turn : tie.After-compare-by Inv-loop μ-loop → tie.In-loop Inv-loop μ-loop
-turn c = c .before .before .before .before
+room : (s : tie.Start Inv-loop μ-loop) → s .args .head .lines ≤ length (now (s .args .index))
+room s = lines-indexed (s .pre .0) (s .pre .1)
 
-abbrev begun : tie.After-compare-by Inv-loop μ-loop → tie.Start Inv-loop μ-loop
-begun c = turn c .before .before .before .before .before .before .before
+-- the line that is looked at
+in-table : (c : tie.In-loop Inv-loop μ-loop) → c .before .loop .middle < begun (c .before .before) .args .head .lines
+in-table c = let i = c .before .loop .inv in omega (arith, i .0 .in-table, i .2 (c .loop-test .taken))
 
--- the comparison is with that line
-order-is : (c : tie.After-compare-by Inv-loop μ-loop)
-    → c .compare-by .result ≡ orderOf (now (begun c .args .f)) (rowAt (now (begun c .args .terms)) (now (begun c .args .counts)) (middle (turn c)))
-order-is c = c .compare-by .ensures ∙ ap (orderOf _) (c .before .row .ensures)
+order-is : (c : tie.After-order-at Inv-loop μ-loop)
+    → (let s = begun (turn c .before .before) in
+    c .order-at .result
+    ≡ orderOf (now (s .args .f)) (rowAt (arranged 64 (now (s .args .index)) (now (s .args .terms))) (arranged 1 (now (s .args .index)) (now (s .args .counts))) (turn c .before .loop .middle)))
+order-is c =
+    let s = begun (turn c .before .before) in
+    rw (line-is (s .pre .0) (s .pre .1) (turn c .before .loop .middle) (in-table (turn c))) (c .order-at .ensures)
+
+-- the bounds after a comparison
+narrowed : (c : tie.At-match-came Inv-loop μ-loop)
+    → (let s = begun (turn (c .before) .before .before) in
+    let i = now (s .args .index) in
+    let l = turn (c .before) .before .loop in
+    Between (now (s .args .f)) (s .args .head .lines) (arranged 64 i (now (s .args .terms))) (arranged 1 i (now (s .args .weights))) (arranged 1 i (now (s .args .counts)))
+    (c .match .low) (c .match .high) × (c .match .high - c .match .low < l .high - l .low))
+narrowed c =
+    let k = c .before in
+    let s = begun (turn k .before .before) in
+    let l = turn k .before .loop in
+    let m = l .inv .2 (turn k .loop-test .taken) in
+    ⊎-elim
+    (λ w. (rw (w .2, w .3) (lower _ _ _ _ _ _ _ (l .middle) (l .inv .0) m (sym (order-is k) ∙ w .1 .given .1)), rw (w .2, w .3) (omega (arith, l .inv .1))))
+    (λ w. (
+      rw (w .2, w .3) (upper _ _ _ _ _ _ _ (l .middle) (l .inv .0) m (kept-ordered (s .pre .0) (s .pre .1)) (sym (order-is k) ∙ w .1 .given .1)),
+      rw (w .2, w .3) (omega (arith, l .inv .1)),
+    ))
+    (c .match .came)
+
+returns : tie.Need-returns Inv-loop μ-loop
+returns c =
+    let s = c .before .before .before .before .before in
+    zero-place _ _ (c .if1 .taken) (kept-ordered (s .pre .0) (s .pre .1))
 
 byte-degrees-requires : tie.Need-byte-degrees-requires Inv-loop μ-loop
 byte-degrees-requires c κs = search needs
 
+shared-slice-read-key : tie.Need-shared-slice-read-key Inv-loop μ-loop
+shared-slice-read-key c = search needs
+
+key-requires : tie.Need-key-requires Inv-loop μ-loop
+key-requires c κs = search needs
+
 cast-high : tie.Need-cast-high Inv-loop μ-loop
 cast-high c = search needs
 
+ahead-requires : tie.Need-ahead-requires Inv-loop μ-loop
+ahead-requires c κs =
+    let s = c .before .before .before .before .before .before .before .before .before in
+    (room s, falling (s .pre .0) (s .pre .1))
+
 loop-holds : tie.Need-loop-holds Inv-loop μ-loop
-loop-holds c = (c .before .byte-degrees .ensures, everywhere _ _ _ _ _)
+loop-holds c =
+    let s = begun c in (
+      rw (c .ahead .ensures, first-is c) (starts (s .pre .0) (s .pre .1) (now (s .args .f)) (some-f c) (c .before .before .before .shared-slice-known5 .given 0 .fits)
+          (λ i. c .before .before .before .before .before .before .before .before .shared-slice-known2 .given i .fits)),
+      omega arith,
+      λ h. h,
+    )
 
-sub-middle : tie.Need-sub-middle Inv-loop μ-loop
-sub-middle c = search needs
+mul-order-at : tie.Need-mul-order-at Inv-loop μ-loop
+mul-order-at c = omega (arith, in-table (c .before), room (begun (c .before .before .before)))
 
-add-middle : tie.Need-add-middle Inv-loop μ-loop
-add-middle c = search needs
+shared-slice-read-order-at : tie.Need-shared-slice-read-order-at Inv-loop μ-loop
+shared-slice-read-order-at c = omega (arith, in-table (c .before .before), room (begun (c .before .before .before .before)))
 
-mul-count : tie.Need-mul-count Inv-loop μ-loop
-mul-count c = search needs
-
-shared-slice-read-count : tie.Need-shared-slice-read-count Inv-loop μ-loop
-shared-slice-read-count c = omega (arith, parts (c .before .before .before .before .before .before .before .before))
-
-cast-count : tie.Need-cast-count Inv-loop μ-loop
-cast-count c = omega (arith, c .shared-slice-known4 .given (middle (c .before)))
-
-row-requires : tie.Need-row-requires Inv-loop μ-loop
-row-requires c κs =
-    let t = c .before .before in
-    let s = t .before .before .before .before .before .before .before in
-    let l : middle t < s .args .head .lines = omega arith in
-    let p = parts s in
-    omega (arith, p, laid-short (s .args .head .lines) (middle t) (now (s .args .terms)) (now (s .args .weights)) (now (s .args .counts)) (p .laid) l)
-
-compare-by-requires : tie.Need-compare-by-requires Inv-loop μ-loop
-compare-by-requires c κs = search needs
+order-at-requires : tie.Need-order-at-requires Inv-loop μ-loop
+order-at-requires c κs =
+    let a = c .before .before .before .before in
+    let s = begun a in
+    let k = s .pre .0 in
+    let i = c .before .before .before .loop .middle in
+    let l = in-table (c .before .before) in (
+      a .before .before .before .before .byte-degrees .ensures,
+      some-f a,
+      first-is a,
+      row-in-table k i (in-capacity k (s .pre .1) i l),
+      count-short k (s .pre .1) i l,
+      k .terms-length,
+      line-some k (s .pre .1) i l,
+      line-keyed k (s .pre .1) i l,
+    )
 
 enum-told : tie.Need-enum-told Inv-loop μ-loop
 enum-told c = search needs
 
-loop-less : tie.Need-loop-less Inv-loop μ-loop
-loop-less c = search needs
-
-loop-again : tie.Need-loop-again Inv-loop μ-loop
-loop-again c =
-    let k = c .before .before in
-    let inv = turn k .before .loop .inv in
-    (inv .0, lower _ _ _ _ _ _ _ (middle (turn k)) (inv .1) (omega arith) (sym (order-is k) ∙ c .enum-told .given .1))
-
 enum-told-2 : tie.Need-enum-told-2 Inv-loop μ-loop
 enum-told-2 c = search needs
 
-returns : tie.Need-returns Inv-loop μ-loop
-returns c =
+returns-2 : tie.Need-returns-2 Inv-loop μ-loop
+returns-2 c =
     let k = c .before .before in
-    found _ _ _ _ _ _ _ (middle (turn k)) (turn k .before .loop .inv .1) (omega arith) (ordered (begun k)) (sym (order-is k) ∙ c .enum-told2 .given .1)
+    let s = begun (turn k .before .before) in
+    let i = turn k .before .loop .inv in
+    found _ _ _ _ _ _ _ _ (i .0) (i .2 (turn k .loop-test .taken)) (kept-ordered (s .pre .0) (s .pre .1)) (sym (order-is k) ∙ c .enum-told2 .given .1)
 
 enum-told-3 : tie.Need-enum-told-3 Inv-loop μ-loop
 enum-told-3 c = search needs
 
 add-low : tie.Need-add-low Inv-loop μ-loop
-add-low c = search needs
+add-low c = let k = turn (c .before .before) in omega (arith, in-table k, room (begun (k .before .before)))
 
-loop-less-2 : tie.Need-loop-less-2 Inv-loop μ-loop
-loop-less-2 c = search needs
+sub-middle : tie.Need-sub-middle Inv-loop μ-loop
+sub-middle c = let b = narrowed (c .before .before) .0 in omega (arith, b .from, b .to)
 
-loop-again-2 : tie.Need-loop-again-2 Inv-loop μ-loop
-loop-again-2 c =
-    let k = c .before .before in
-    let inv = turn k .before .loop .inv in
-    (inv .0, upper _ _ _ _ _ _ _ (middle (turn k)) (inv .1) (omega arith) (ordered (begun k)) (sym (order-is k) ∙ c .enum-told3 .given .1))
+add-middle : tie.Need-add-middle Inv-loop μ-loop
+add-middle c = search needs
 
-returns-2 : tie.Need-returns-2 Inv-loop μ-loop
-returns-2 c = missing _ _ _ _ _ _ _ (c .before .loop .inv .1) (c .loop-test .left)
+loop-less : tie.Need-loop-less Inv-loop μ-loop
+loop-less c = narrowed (c .before .before) .1
+
+loop-again : tie.Need-loop-again Inv-loop μ-loop
+loop-again c = (narrowed (c .before .before) .0, omega arith, λ h. omega arith)
+
+returns-3 : tie.Need-returns-3 Inv-loop μ-loop
+returns-3 c = missing _ _ _ _ _ _ _ (c .before .loop .inv .0) (c .loop-test .left)
 
 pub find-spec : {M : Type 1} → statement M
 find-spec =
@@ -127,23 +166,23 @@ find-spec =
     (tie.spec
     Inv-loop
     μ-loop
-    byte-degrees-requires
-    cast-high
-    loop-holds
-    sub-middle
-    add-middle
-    mul-count
-    shared-slice-read-count
-    cast-count
-    row-requires
-    compare-by-requires
-    enum-told
-    loop-less
-    loop-again
-    enum-told-2
     returns
+    byte-degrees-requires
+    shared-slice-read-key
+    key-requires
+    cast-high
+    ahead-requires
+    loop-holds
+    mul-order-at
+    shared-slice-read-order-at
+    order-at-requires
+    enum-told
+    enum-told-2
+    returns-2
     enum-told-3
     add-low
-    loop-less-2
-    loop-again-2
-    returns-2)
+    sub-middle
+    add-middle
+    loop-less
+    loop-again
+    returns-3)

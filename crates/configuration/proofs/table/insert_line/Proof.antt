@@ -1,51 +1,59 @@
--- `insert_line` meets its contract: the lines behind the place move up by one, in each area.
-use Prim.Native.Nat.{_*_}
+-- `insert_line` meets its contract: the line comes into the first free row, and the index has an entry for it at its place.
+use mathlib.Core.Path.{_≡_, ap, _∙_}
+use Prim.Native.Nat.{ℕ, _+_, _*_, _<_}
 use native.Mathlib.Omega.{arith}
 use lib.ListN.{length}
 use denote.Ref.{now}
 use mir.Facts.{toZ-ofZ}
 use borrow.Author.Needs.{needs}
-use Rattle.configuration.specs.Memory.{memoryOf}
-use Rattle.configuration.specs.MemoryLaws.{Formed, formed-parts}
-use Rattle.configuration.proofs.Tables.{filled, put, line-put}
+use Rattle.configuration.specs.Index.{firstKey}
+use Rattle.configuration.proofs.Tables.{some-length, first-key, row-in-table, inserted}
 use Rattle.configuration.proofs.table.insert_line.Statement.{statement}
 use Rattle.configuration.proofs.table.insert_line.Tie as tie
 
-parts : (s : tie.Start) → Formed (length (now (s .args .counts))) (memoryOf (s .args .head) (now (s .args .terms)) (now (s .args .weights)) (now (s .args .counts)))
-parts s = formed-parts _ _ (s .pre .0)
+abbrev begun : tie.After-row-at → tie.Start
+begun c = c .before .before .before .before .before .before .before
+
+-- the row is one of the table
+in-table : (c : tie.After-row-at) → c .row-at .result < length (now (begun c .args .counts))
+in-table c = let p = begun c .pre in omega (arith, c .row-at .ensures, row-in-table (p .0) (begun c .args .head .lines) (p .3))
 
 cast-lines : tie.Need-cast-lines
 cast-lines c = search needs
 
-mul-start : tie.Need-mul-start
-mul-start c = search needs
+row-at-requires : tie.Need-row-at-requires
+row-at-requires c κs = search needs
 
-add-end : tie.Need-add-end
-add-end c = search needs
+shared-slice-read-key : tie.Need-shared-slice-read-key
+shared-slice-read-key c = some-length (now (begun (c .before .before) .args .f)) (begun (c .before .before) .pre .4)
 
-mul-move-up : tie.Need-mul-move-up
-mul-move-up c = search needs
+key-requires : tie.Need-key-requires
+key-requires c κs = search needs
 
-move-up-requires : tie.Need-move-up-requires
-move-up-requires c κs = omega (arith, parts (c .before .before .before .before .before))
+mul-insert-entry : tie.Need-mul-insert-entry
+mul-insert-entry c = search needs
+
+add-insert-entry : tie.Need-add-insert-entry
+add-insert-entry c = search needs
+
+insert-entry-requires : tie.Need-insert-entry-requires
+insert-entry-requires c κs = search needs
+
+mul-write : tie.Need-mul-write
+mul-write c = search needs
 
 write-requires : tie.Need-write-requires
-write-requires c κs = omega (arith, parts (c .before .before .before .before .before .before .before .before .before), c .before .before .before .move-up .kept .0)
+write-requires c κs =
+    let r = c .before .before .before .before .before .before .before in
+    omega (arith, in-table r, begun r .pre .0 .terms-length, begun r .pre .5)
 
-add-clear : tie.Need-add-clear
-add-clear c = search needs
+mul-weight : tie.Need-mul-weight
+mul-weight c = search needs
 
-clear-requires : tie.Need-clear-requires
-clear-requires c κs =
-    let m = c .before .before .before .before .before .before .before .move-up in
-    let w = c .before .before .before .write in
-    omega (arith, parts (c .before .before .before .before .before .before .before .before .before .before .before .before .before), m .kept .0, w .kept .0)
-
-insert-weight-requires : tie.Need-insert-weight-requires
-insert-weight-requires c κs = omega (arith, parts (c .before .before .before .before .before .before .before .before .before .before .before .before .before .before .before .before .before))
-
-move-up-requires-2 : tie.Need-move-up-requires-2
-move-up-requires-2 c κs = search needs
+slice-set-from-weight : tie.Need-slice-set-from-weight
+slice-set-from-weight c =
+    let r = c .before .before .before .before .before .before .before .before .before .before in
+    omega (arith, in-table r, begun r .pre .0 .weights-length)
 
 cast-counts : tie.Need-cast-counts
 cast-counts c = search needs
@@ -54,10 +62,10 @@ mul-counts : tie.Need-mul-counts
 mul-counts c = search needs
 
 slice-write-counts : tie.Need-slice-write-counts
-slice-write-counts c = search needs
+slice-write-counts c = in-table (c .before .before .before .before .before .before .before .before .before .before)
 
-add-t23 : tie.Need-add-t23
-add-t23 c = search needs
+add-t18 : tie.Need-add-t18
+add-t18 c = search needs
 
 same-length : tie.Need-same-length
 same-length c = search needs
@@ -68,42 +76,43 @@ same-length-2 c = search needs
 same-length-3 : tie.Need-same-length-3
 same-length-3 c = search needs
 
+same-length-4 : tie.Need-same-length-4
+same-length-4 c = search needs
+
 returns : tie.Need-returns
 returns c =
-    let s = c .before .before .before .before .before .before .before .before .before .before .before .before .before .before .before .before .before .before .before .before .before .before .before .before in
+    let r = c .before .before .before .before .before .before .before .before .before .before .before in
+    let s = begun r in
     let a = s .args in
-    let p = parts s in
-    let m = c .before .before .before .before .before .before .before .before .before .before .before .before .before .before .before .before .before .before .move-up in
-    let w = c .before .before .before .before .before .before .before .before .before .before .before .before .before .before .write in
-    let d = c .before .before .before .before .before .before .before .before .before .before .clear in
-    let i = c .before .before .before .before .before .before .insert-weight in
-    let u = c .before .before .before .move-up2 in
-    line-put (length (now (a .counts))) (a .head) (now (a .terms)) (now (a .weights)) (now (a .counts)) (s .pre .0) (a .at) (now (a .f)) (a .weight)
-    (d .last .0) (i .last .0) _ (s .pre .1) (s .pre .2)
-    (filled (now (a .terms)) (m .last .0) (w .last .0) (d .last .0) (now (a .f)) (64 * a .at) (64 * a .head .lines) 64 0
-    (omega arith) (omega arith) (s .pre .3) (m .ensures) (w .ensures) (d .ensures))
-    (rw (toZ-ofZ (s .fits .weight)) at (i .ensures))
-    (put (now (a .counts)) (u .last .0) (a .at) (a .head .lines) (length (now (a .f))) (s .pre .1) (omega arith) (u .ensures))
+    let k = c .before .before .before .before .before .before .before .before .key in
+    let i = c .before .before .before .before .before .before .before .insert-entry in
+    let w = c .before .before .before .write in
+    let n = r .row-at .result in
+    let e : 128 * k .result + n ≡ 128 * firstKey (now (a .f)) + n = ap (λ (x : ℕ). 128 * x + n) (k .ensures .0 ∙ first-key (now (a .f)) (s .pre .4)) in
+    rw (toZ-ofZ (s .fits .weight))
+    (inserted (s .pre .0) (s .pre .1) (a .at) n (now (a .f)) (a .weight) (s .pre .2) (s .pre .3) (s .pre .5) (r .row-at .ensures) e (i .ensures) (w .ensures))
 
 pub insert-line-spec : {M : Type 1} → statement M
 insert-line-spec =
     tie.close
     (tie.spec
     cast-lines
-    mul-start
-    add-end
-    mul-move-up
-    move-up-requires
+    row-at-requires
+    shared-slice-read-key
+    key-requires
+    mul-insert-entry
+    add-insert-entry
+    insert-entry-requires
+    mul-write
     write-requires
-    add-clear
-    clear-requires
-    insert-weight-requires
-    move-up-requires-2
+    mul-weight
+    slice-set-from-weight
     cast-counts
     mul-counts
     slice-write-counts
-    add-t23
+    add-t18
     same-length
     same-length-2
     same-length-3
+    same-length-4
     returns)

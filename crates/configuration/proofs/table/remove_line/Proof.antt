@@ -1,66 +1,65 @@
--- `remove_line` meets its contract: the lines behind the place move down by one, in each area.
-use mathlib.Core.Path.{refl}
-use Prim.Native.Nat.{_+_, _-_, _*_}
+-- `remove_line` meets its contract: the row of the line becomes zero and free, and the index has no entry for it.
+use Prim.Native.Nat.{_<_, _≤_}
 use native.Mathlib.Omega.{arith}
-use lib.ListN.{length}
+use lib.ListN.{length, getD}
 use denote.Ref.{now}
 use borrow.Author.Needs.{needs}
-use Rattle.configuration.specs.Memory.{memoryOf}
-use Rattle.configuration.specs.MemoryLaws.{Formed, formed-parts}
-use Rattle.configuration.proofs.Tables.{blanked, taken, line-taken}
+use Rattle.configuration.proofs.Tables.{room, held-below, count-short, removed}
 use Rattle.configuration.proofs.table.remove_line.Statement.{statement}
 use Rattle.configuration.proofs.table.remove_line.Tie as tie
 
-parts : (s : tie.Start) → Formed (length (now (s .args .counts))) (memoryOf (s .args .head) (now (s .args .terms)) (now (s .args .weights)) (now (s .args .counts)))
-parts s = formed-parts _ _ (s .pre .0)
+abbrev begun : tie.After-row-at → tie.Start
+begun c = c .before .before .before .before .before .before
+
+-- the row is one of the table
+in-table : (c : tie.After-row-at) → c .row-at .result < length (now (begun c .args .counts))
+in-table c = let p = begun c .pre in held-below (p .0) (p .1) (begun c .args .at) (c .row-at .result) (p .2) (c .row-at .ensures)
+
+-- and has at most 64 terms
+short : (c : tie.After-row-at) → getD (now (begun c .args .counts)) (c .row-at .result) 0 ≤ 64
+short c = let p = begun c .pre in count-short (p .0) (p .1) (begun c .args .at) (c .row-at .result) (p .2) (c .row-at .ensures)
 
 cast-lines : tie.Need-cast-lines
 cast-lines c = search needs
 
-sub-last : tie.Need-sub-last
-sub-last c = search needs
+row-at-requires : tie.Need-row-at-requires
+row-at-requires c κs = let s = c .before .before .before .before .before in omega (arith, room (s .pre .0) (s .pre .1))
 
-mul-last : tie.Need-mul-last
-mul-last c = search needs
+mul-start : tie.Need-mul-start
+mul-start c = search needs
 
-add-move-down : tie.Need-add-move-down
-add-move-down c = search needs
+mul-count : tie.Need-mul-count
+mul-count c = search needs
 
-mul-move-down : tie.Need-mul-move-down
-mul-move-down c = search needs
+slice-read-count : tie.Need-slice-read-count
+slice-read-count c = in-table (c .before)
 
-mul-move-down-2 : tie.Need-mul-move-down-2
-mul-move-down-2 c = search needs
+cast-count : tie.Need-cast-count
+cast-count c = omega (arith, short (c .before))
 
-move-down-requires : tie.Need-move-down-requires
-move-down-requires c κs = omega (arith, parts (c .before .before .before .before))
+remove-entry-requires : tie.Need-remove-entry-requires
+remove-entry-requires c κs = let s = c .before .before .before .before .before .before .before .before in (s .pre .2, room (s .pre .0) (s .pre .1))
 
-mul-clear : tie.Need-mul-clear
-mul-clear c = search needs
+add-clear : tie.Need-add-clear
+add-clear c = let r = c .before .before .before .before .before .before in omega (arith, in-table r, short r, begun r .pre .0 .capacity)
 
 clear-requires : tie.Need-clear-requires
-clear-requires c κs = omega (arith, parts (c .before .before .before .before .before .before .before .before), c .before .before .before .move-down .kept .0)
+clear-requires c κs = let r = c .before .before .before .before .before .before in omega (arith, in-table r, short r, begun r .pre .0 .terms-length)
 
-remove-weight-requires : tie.Need-remove-weight-requires
-remove-weight-requires c κs = omega (arith, parts (c .before .before .before .before .before .before .before .before .before .before .before .before))
+mul-weights : tie.Need-mul-weights
+mul-weights c = search needs
 
-add-move-down-2 : tie.Need-add-move-down-2
-add-move-down-2 c = search needs
-
-move-down-requires-2 : tie.Need-move-down-requires-2
-move-down-requires-2 c κs = omega (arith, parts (c .before .before .before .before .before .before .before .before .before .before .before .before .before .before .before))
-
-sub-counts : tie.Need-sub-counts
-sub-counts c = search needs
+slice-set-of-weights : tie.Need-slice-set-of-weights
+slice-set-of-weights c = let r = c .before .before .before .before .before .before .before .before .before in omega (arith, in-table r, begun r .pre .0 .weights-length)
 
 mul-counts : tie.Need-mul-counts
 mul-counts c = search needs
 
 slice-write-counts : tie.Need-slice-write-counts
-slice-write-counts c = omega (arith, parts (c .before .before .before .before .before .before .before .before .before .before .before .before .before .before .before .before .before .before), c .before .before .move-down2 .kept .0)
+slice-write-counts c = in-table (c .before .before .before .before .before .before .before .before .before)
 
-sub-t21 : tie.Need-sub-t21
-sub-t21 c = search needs
+sub-t15 : tie.Need-sub-t15
+sub-t15 c = search needs
 
 same-length : tie.Need-same-length
 same-length c = search needs
@@ -71,43 +70,35 @@ same-length-2 c = search needs
 same-length-3 : tie.Need-same-length-3
 same-length-3 c = search needs
 
+same-length-4 : tie.Need-same-length-4
+same-length-4 c = search needs
+
 returns : tie.Need-returns
 returns c =
-    let s = c .before .before .before .before .before .before .before .before .before .before .before .before .before .before .before .before .before .before .before in
-    let a = s .args in
-    let n = a .head .lines in
-    let p = parts s in
-    let m = c .before .before .before .before .before .before .before .before .before .before .before .before .before .before .move-down in
-    let d = c .before .before .before .before .before .before .before .before .before .before .clear in
-    let u = c .before .before .before .move-down2 in
-    line-taken (length (now (a .counts))) (a .head) (now (a .terms)) (now (a .weights)) (now (a .counts)) (s .pre .0) (a .at)
-    _ _ _ (s .pre .1)
-    (blanked (now (a .terms)) (m .last .0) (64 * (a .at + 1)) (64 * n) 64 (64 * a .at) (64 * (n - 1)) (omega arith) (omega arith) (omega arith) (omega arith)
-    (m .ensures) (d .last .0) 0 (d .ensures))
-    (c .before .before .before .before .before .before .remove-weight .ensures)
-    (taken (now (a .counts)) (u .last .0) (a .at + 1) n 1 (a .at) (n - 1) (omega arith) (omega arith) (omega arith) (omega arith) (u .ensures) 0 refl)
+    let r = c .before .before .before .before .before .before .before .before .before .before in
+    let s = begun r in
+    removed (s .pre .0) (s .pre .1) (s .args .at) (r .row-at .result) (s .pre .2) (r .row-at .ensures) (c .before .before .before .before .before .before .before .remove-entry .ensures) (c .before .before .before .clear .ensures)
 
 pub remove-line-spec : {M : Type 1} → statement M
 remove-line-spec =
     tie.close
     (tie.spec
     cast-lines
-    sub-last
-    mul-last
-    add-move-down
-    mul-move-down
-    mul-move-down-2
-    move-down-requires
-    mul-clear
+    row-at-requires
+    mul-start
+    mul-count
+    slice-read-count
+    cast-count
+    remove-entry-requires
+    add-clear
     clear-requires
-    remove-weight-requires
-    add-move-down-2
-    move-down-requires-2
-    sub-counts
+    mul-weights
+    slice-set-of-weights
     mul-counts
     slice-write-counts
-    sub-t21
+    sub-t15
     same-length
     same-length-2
     same-length-3
+    same-length-4
     returns)

@@ -25,10 +25,10 @@ returns c =
     let us = now (a .work) in
     let r = c .refused in
     let k = sym (c .before .before .is-going .ensures) ∙ not-true (c .before .before .is-going .result) (c .before .if1 .taken) in (
-      λ ts ws cs ready. turned-down n p fs us ts ws cs ready Misplaced (r .result) (r .ensures) (onChoice (progressOf p fs us ts ws cs))
-          (choice-misplaced p fs us ts ws cs k) .0,
-      λ ts ws cs ready. turned-down n p fs us ts ws cs ready Misplaced (r .result) (r .ensures) (onChoice (progressOf p fs us ts ws cs))
-          (choice-misplaced p fs us ts ws cs k) .1,
+      λ is ts ws cs ready. turned-down n p fs us is ts ws cs ready Misplaced (r .result) (r .ensures) (onChoice (progressOf p fs us is ts ws cs))
+          (choice-misplaced p fs us is ts ws cs k) .0,
+      λ is ts ws cs ready. turned-down n p fs us is ts ws cs ready Misplaced (r .result) (r .ensures) (onChoice (progressOf p fs us is ts ws cs))
+          (choice-misplaced p fs us is ts ws cs k) .1,
     )
 
 refused-requires-2 : tie.Need-refused-requires-2
@@ -44,10 +44,10 @@ returns-2 c =
     let r = c .refused2 in
     let g = c .before .before .before .is-going in
     let k = sym (g .ensures) ∙ not-false (g .result) (c .before .before .if1 .left) in (
-      λ ts ws cs ready. turned-down n p fs us ts ws cs ready Misplaced (r .result) (r .ensures) (onChoice (progressOf p fs us ts ws cs))
-          (choice-again p fs us ts ws cs k (c .before .if2 .taken)) .0,
-      λ ts ws cs ready. turned-down n p fs us ts ws cs ready Misplaced (r .result) (r .ensures) (onChoice (progressOf p fs us ts ws cs))
-          (choice-again p fs us ts ws cs k (c .before .if2 .taken)) .1,
+      λ is ts ws cs ready. turned-down n p fs us is ts ws cs ready Misplaced (r .result) (r .ensures) (onChoice (progressOf p fs us is ts ws cs))
+          (choice-again p fs us is ts ws cs k (c .before .if2 .taken)) .0,
+      λ is ts ws cs ready. turned-down n p fs us is ts ws cs ready Misplaced (r .result) (r .ensures) (onChoice (progressOf p fs us is ts ws cs))
+          (choice-again p fs us is ts ws cs k (c .before .if2 .taken)) .1,
     )
 
 copy-requires : tie.Need-copy-requires
@@ -74,8 +74,8 @@ returns-3 c =
     let gs = d .last .1 .1 .0 in
     let l = d .kept .1 .1 .0 ∙ s .pre .2 in
     let r = c .accepted in (
-      λ ts ws cs ready. choice-up p fs us ts ws cs k u n gs (d .ensures) l ready (r .result) (r .ensures) .0,
-      λ ts ws cs ready. choice-up p fs us ts ws cs k u n gs (d .ensures) l ready (r .result) (r .ensures) .1,
+      λ is ts ws cs ready. choice-up p fs us is ts ws cs k u n gs (d .ensures) l ready (r .result) (r .ensures) .0,
+      λ is ts ws cs ready. choice-up p fs us is ts ws cs k u n gs (d .ensures) l ready (r .result) (r .ensures) .1,
     )
 
 pub on-choice-spec : {M : Type 1} → statement M

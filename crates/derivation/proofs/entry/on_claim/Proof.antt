@@ -17,13 +17,14 @@ use borrow.Author.Needs.{needs}
 use Rattle.walk.specs.declared.Turn.the-variants.{Accepted, Refused}
 use Rattle.walk.proofs.Adds.{held-none}
 use Rattle.configuration.specs.WeightLaws.{lower, not-lower}
-use Rattle.derivation.proofs.Entries.{left-by, closing, turned-down, weights-room, isIdle, claim-misplaced, claim-cut, claim-range, claim-negative, claim-high, claim-closed}
+use Rattle.derivation.proofs.Entries.{left-by, closing, turned-down, table-kept, isIdle, claim-misplaced, claim-cut, claim-range, claim-negative, claim-high, claim-closed}
 use Rattle.run.specs.Boolean.{of-true}
 use Rattle.refusal.specs.declared.Reason.the-variants.{Misplaced, CutShort, OutOfRange, NegativeLine, ClaimTooHigh}
 use Rattle.configuration.specs.Configuration.{weight, anyNegative}
-use Rattle.configuration.specs.Memory.{Memory, memoryOf, linesOf}
-use Rattle.configuration.proofs.Forms.{none-negative-lines}
-use Rattle.calculus.proofs.Steps.{table-formed}
+use Rattle.configuration.specs.Memory.{Memory, linesOf}
+use Rattle.configuration.specs.MemoryLaws.{well-formed}
+use Rattle.configuration.specs.Index.{indexedOf}
+use Rattle.configuration.specs.TurnLaws.{kept-negative}
 use Rattle.record.specs.Record.{amountIn}
 use Rattle.record.specs.declared.Amount.the-variants.{Whole}
 use Rattle.record.proofs.Bodies.{amount-whole}
@@ -40,26 +41,26 @@ abbrev bytes : tie.Start → List ℕ
 bytes s = now (s .args .bytes)
 
 abbrev memory : tie.Start → Memory
-memory s = memoryOf (s .args .p .head) (now (s .args .terms)) (now (s .args .weights)) (now (s .args .counts))
+memory s = indexedOf (s .args .p .head) (now (s .args .index)) (now (s .args .terms)) (now (s .args .weights)) (now (s .args .counts))
 
 abbrev progress : tie.Start → W.Progress State
-progress s = progressOf (s .args .p) (now (s .args .first)) (now (s .args .work)) (now (s .args .terms)) (now (s .args .weights)) (now (s .args .counts))
+progress s = progressOf (s .args .p) (now (s .args .first)) (now (s .args .work)) (now (s .args .index)) (now (s .args .terms)) (now (s .args .weights)) (now (s .args .counts))
 
 -- a refusal, for the reason that the definition has
 refuse : (s : tie.Start) (reason : Reason) (r : Step) → r ≡ record { progress = s .args .p; turn = Refused reason }
     → onClaim (bytes s) (progress s) ≡ W.turnedDown (numberOf reason)
     → (let a = s .args in
-    (left-by (now (a .first)) (now (a .work)) (now (a .terms)) (now (a .weights)) (now (a .counts)) r ≡ W.after (progress s) (onClaim (bytes s) (progress s)))
-    × Ready (a .p .head .variables) (r .progress) (now (a .first)) (now (a .work)) (now (a .terms)) (now (a .weights)) (now (a .counts)))
+    (left-by (now (a .first)) (now (a .work)) (now (a .index)) (now (a .terms)) (now (a .weights)) (now (a .counts)) r ≡ W.after (progress s) (onClaim (bytes s) (progress s)))
+    × Ready (a .p .head .variables) (r .progress) (now (a .first)) (now (a .work)) (now (a .index)) (now (a .terms)) (now (a .weights)) (now (a .counts)))
 refuse s reason r e =
     let a = s .args in
-    turned-down (a .p .head .variables) (a .p) (now (a .first)) (now (a .work)) (now (a .terms)) (now (a .weights)) (now (a .counts)) (s .pre .1) reason r e
+    turned-down (a .p .head .variables) (a .p) (now (a .first)) (now (a .work)) (now (a .index)) (now (a .terms)) (now (a .weights)) (now (a .counts)) (s .pre .1) reason r e
     (onClaim (bytes s) (progress s))
 
 -- whether nothing is under way, in code and in the definition
 same-idle : (s : tie.Start)
     → (let a = s .args in
-    isIdle (bytes s) (a .p) (now (a .first)) (now (a .work)) (now (a .terms)) (now (a .weights)) (now (a .counts))
+    isIdle (bytes s) (a .p) (now (a .first)) (now (a .work)) (now (a .index)) (now (a .terms)) (now (a .weights)) (now (a .counts))
     ≡ ((a .p .started && not (a .p .closed)) && (not (a .p .chosen) && eqb (a .p .work) 0)))
 same-idle s =
     let a = s .args in
@@ -67,10 +68,10 @@ same-idle s =
 
 -- where nothing is under way
 abbrev start : tie.After-struct-known → tie.Start
-start k = k .before .before .before .before .before .before .before .before
+start k = k .before .before .before .before .before .before .before .before .before
 
 idle : (k : tie.After-struct-known)
-    → (let a = start k .args in isIdle (bytes (start k)) (a .p) (now (a .first)) (now (a .work)) (now (a .terms)) (now (a .weights)) (now (a .counts)) ≡ true)
+    → (let a = start k .args in isIdle (bytes (start k)) (a .p) (now (a .first)) (now (a .work)) (now (a .index)) (now (a .terms)) (now (a .weights)) (now (a .counts)) ≡ true)
 idle k = let i = k .before .before .is-idle in same-idle (start k) ∙ sym (i .ensures) ∙ not-false (i .result) (k .before .if1 .left)
 
 -- where the claim is tested
@@ -90,21 +91,22 @@ tested : (f : tie.After-claim-fits) → f .claim-fits .result ≡ claimFits (cla
 tested f = rw (claim-is f) at (f .claim-fits .ensures)
 
 -- where the signs are tested
-fits : (g : tie.After-none-negative) → claimFits (claim (g .before .before .before .before)) ≡ true
-fits g = let f = g .before .before .before .before in sym (tested f) ∙ not-false (f .claim-fits .result) (g .before .before .before .if2 .left)
+fits : (g : tie.After-none-negative) → claimFits (claim (g .before .before .before)) ≡ true
+fits g = let f = g .before .before .before in sym (tested f) ∙ not-false (f .claim-fits .result) (g .before .before .if2 .left)
 
-signs : (g : tie.After-none-negative) → anyNegative (linesOf (memory (came (g .before .before .before .before)))) ≡ not (g .none-negative .result)
+signs : (g : tie.After-none-negative) → g .none-negative .result ≡ not (anyNegative (linesOf (memory (came (g .before .before .before)))))
 signs g =
-    let s = came (g .before .before .before .before) in
-    let m = memory s in
-    none-negative-lines (m .lines) (m .terms) (m .weights) (m .counts) (weights-room m (s .pre .1 .well)) ∙ ap not (sym (g .none-negative .ensures))
+    let s = came (g .before .before .before) in
+    let a = s .args in
+    g .none-negative .ensures ∙ kept-negative 128 (a .p .head) (now (a .index)) (now (a .terms)) (now (a .weights)) (now (a .counts))
+    (s .pre .1 .kept) (well-formed (memory s) (s .pre .1 .well))
 
 -- where the weight of 1 is known
-none : (w : tie.After-weight-of) → anyNegative (linesOf (memory (came (w .before .before .before .before .before .before .before)))) ≡ false
-none w = let g = w .before .before .before in signs g ∙ ap not (not-false (g .none-negative .result) (w .before .before .if3 .left))
+none : (w : tie.After-weight-of) → anyNegative (linesOf (memory (came (w .before .before .before .before .before .before)))) ≡ false
+none w = let g = w .before .before .before in not-true (anyNegative _) (sym (signs g) ∙ not-false (g .none-negative .result) (w .before .before .if3 .left))
 
 weighed : (w : tie.After-weight-of)
-    → toZ w64 (ofZ w64 (w .weight-of .result)) ≡ weight (linesOf (memory (came (w .before .before .before .before .before .before .before)))) (0 ∷ [])
+    → toZ w64 (ofZ w64 (w .weight-of .result)) ≡ weight (linesOf (memory (came (w .before .before .before .before .before .before)))) (0 ∷ [])
 weighed w = toZ-ofZ {w = w64} {z = w .weight-of .result} (record { sfits = search needs }) ∙ w .weight-of .ensures
 
 is-idle-requires : tie.Need-is-idle-requires
@@ -115,12 +117,12 @@ refused-requires c κs = search needs
 
 returns : tie.Need-returns
 returns c =
-    let s = c .before .before .before .before .before .before .before .before in
+    let s = c .before .before .before .before .before .before .before .before .before in
     let a = s .args in
     let p = a .p in
     let k = same-idle s ∙ sym (c .before .before .is-idle .ensures) ∙ not-true (c .before .before .is-idle .result) (c .before .if1 .taken) in
     refuse s Misplaced (c .refused .result) (c .refused .ensures)
-    (claim-misplaced (bytes s) p (now (a .first)) (now (a .work)) (now (a .terms)) (now (a .weights)) (now (a .counts)) k)
+    (claim-misplaced (bytes s) p (now (a .first)) (now (a .work)) (now (a .index)) (now (a .terms)) (now (a .weights)) (now (a .counts)) k)
 
 add-read-amount : tie.Need-add-read-amount
 add-read-amount c = search needs
@@ -145,7 +147,7 @@ returns-2 c =
     let p = a .p in
     let d = sym (c .before .before .before .read-amount .ensures) ∙ c .before .enum-told .given .1 in
     refuse s CutShort (c .refused2 .result) (c .refused2 .ensures)
-    (claim-cut (bytes s) p (now (a .first)) (now (a .work)) (now (a .terms)) (now (a .weights)) (now (a .counts)) (idle k) d)
+    (claim-cut (bytes s) p (now (a .first)) (now (a .work)) (now (a .index)) (now (a .terms)) (now (a .weights)) (now (a .counts)) (idle k) d)
 
 claim-fits-requires : tie.Need-claim-fits-requires
 claim-fits-requires c κs = search needs
@@ -161,14 +163,11 @@ returns-3 c =
     let p = a .p in
     let d = sym (tested f) ∙ not-true (f .claim-fits .result) (c .before .if2 .taken) in
     refuse s OutOfRange (c .refused3 .result) (c .refused3 .ensures)
-    (claim-range (bytes s) p (now (a .first)) (now (a .work)) (now (a .terms)) (now (a .weights)) (now (a .counts))
+    (claim-range (bytes s) p (now (a .first)) (now (a .work)) (now (a .index)) (now (a .terms)) (now (a .weights)) (now (a .counts))
     (idle (f .before .before .before .before .before)) (claim f) (read f) d)
 
-cast-none-negative : tie.Need-cast-none-negative
-cast-none-negative c = search needs
-
 none-negative-requires : tie.Need-none-negative-requires
-none-negative-requires c κs = let s = came (c .before .before .before) in weights-room (memory s) (s .pre .1 .well)
+none-negative-requires c κs = search needs
 
 refused-requires-4 : tie.Need-refused-requires-4
 refused-requires-4 c κs = search needs
@@ -176,20 +175,24 @@ refused-requires-4 c κs = search needs
 returns-4 : tie.Need-returns-4
 returns-4 c =
     let g = c .before .before in
-    let f = g .before .before .before .before in
+    let f = g .before .before .before in
     let s = came f in
     let a = s .args in
     let p = a .p in
-    let d = signs g ∙ ap not (not-true (g .none-negative .result) (c .before .if3 .taken)) in
+    let d = not-false (anyNegative (linesOf (memory s))) (sym (signs g) ∙ not-true (g .none-negative .result) (c .before .if3 .taken)) in
     refuse s NegativeLine (c .refused4 .result) (c .refused4 .ensures)
-    (claim-negative (bytes s) p (now (a .first)) (now (a .work)) (now (a .terms)) (now (a .weights)) (now (a .counts))
+    (claim-negative (bytes s) p (now (a .first)) (now (a .work)) (now (a .index)) (now (a .terms)) (now (a .weights)) (now (a .counts))
     (idle (f .before .before .before .before .before)) (claim f) (read f) (fits g) d)
 
 slice-aggregate-weight-of : tie.Need-slice-aggregate-weight-of
 slice-aggregate-weight-of c = search needs
 
 weight-of-requires : tie.Need-weight-of-requires
-weight-of-requires c κs = let s = came (c .before .before .before .before .before .before) in (table-formed (memory s) (s .pre .1 .well), tt)
+weight-of-requires c κs =
+    let s = came (c .before .before .before .before .before) in
+    let a = s .args in
+    let t = table-kept (a .p .head) (now (a .index)) (now (a .terms)) (now (a .weights)) (now (a .counts)) (s .pre .1 .kept) (s .pre .1 .well) in
+    (t .0, t .1, tt)
 
 refused-requires-5 : tie.Need-refused-requires-5
 refused-requires-5 c κs = search needs
@@ -198,19 +201,19 @@ returns-5 : tie.Need-returns-5
 returns-5 c =
     let w = c .before .before in
     let g = w .before .before .before in
-    let f = g .before .before .before .before in
+    let f = g .before .before .before in
     let s = came f in
     let a = s .args in
     let p = a .p in
     let l : ltZ (weight (linesOf (memory s)) (0 ∷ [])) (claim f) ≡ true = sym (ap₂ ltZ (weighed w) (claim-is f)) ∙ c .before .if4 .taken in
     refuse s ClaimTooHigh (c .refused5 .result) (c .refused5 .ensures)
-    (claim-high (bytes s) p (now (a .first)) (now (a .work)) (now (a .terms)) (now (a .weights)) (now (a .counts))
+    (claim-high (bytes s) p (now (a .first)) (now (a .work)) (now (a .index)) (now (a .terms)) (now (a .weights)) (now (a .counts))
     (idle (f .before .before .before .before .before)) (claim f) (read f) (fits g) (none w)
     (lower (weight (linesOf (memory s)) (0 ∷ [])) (claim f) l))
 
 closed-with-requires : tie.Need-closed-with-requires
 closed-with-requires c κs =
-    let f = c .before .before .before .before .before .before .before .before in
+    let f = c .before .before .before .before .before .before .before in
     let s = came f in
     let p = s .args .p in
     let h : p .at + 1 + 8 ≤ length (bytes s) = leb→le (p .at + 1 + 8) (length (bytes s)) (of-true (amount-whole (bytes s) (p .at + 1) (claim f) (read f) .0)) in
@@ -221,12 +224,12 @@ returns-6 : tie.Need-returns-6
 returns-6 c =
     let w = c .before .before in
     let g = w .before .before .before in
-    let f = g .before .before .before .before in
+    let f = g .before .before .before in
     let s = came f in
     let a = s .args in
     let p = a .p in
     let l : ltZ (weight (linesOf (memory s)) (0 ∷ [])) (claim f) ≡ false = sym (ap₂ ltZ (weighed w) (claim-is f)) ∙ c .before .if4 .left in
-    claim-closed (bytes s) p (now (a .first)) (now (a .work)) (now (a .terms)) (now (a .weights)) (now (a .counts))
+    claim-closed (bytes s) p (now (a .first)) (now (a .work)) (now (a .index)) (now (a .terms)) (now (a .weights)) (now (a .counts))
     (idle (f .before .before .before .before .before)) (claim f) (read f) (fits g) (none w)
     (not-lower (weight (linesOf (memory s)) (0 ∷ [])) (claim f) l)
     (p .head .variables) (s .pre .1) (c .closed-with .result)
@@ -248,7 +251,6 @@ on-claim-spec =
     claim-fits-requires
     refused-requires-3
     returns-3
-    cast-none-negative
     none-negative-requires
     refused-requires-4
     returns-4

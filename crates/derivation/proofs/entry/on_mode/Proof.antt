@@ -21,8 +21,8 @@ returns c =
     let n = p .head .variables in
     let r = c .refused in
     let k = c .before .if1 .taken in (
-      λ fs us ts ws cs ready. turned-down n p fs us ts ws cs ready Misplaced (r .result) (r .ensures) (onMode d (progressOf p fs us ts ws cs)) (rw k) .0,
-      λ fs us ts ws cs ready. turned-down n p fs us ts ws cs ready Misplaced (r .result) (r .ensures) (onMode d (progressOf p fs us ts ws cs)) (rw k) .1,
+      λ fs us is ts ws cs ready. turned-down n p fs us is ts ws cs ready Misplaced (r .result) (r .ensures) (onMode d (progressOf p fs us is ts ws cs)) (rw k) .0,
+      λ fs us is ts ws cs ready. turned-down n p fs us is ts ws cs ready Misplaced (r .result) (r .ensures) (onMode d (progressOf p fs us is ts ws cs)) (rw k) .1,
     )
 
 add-t6 : tie.Need-add-t6
@@ -35,8 +35,9 @@ returns-2 : tie.Need-returns-2
 returns-2 c =
     let s = c .before .before .before .before .before in
     let e = toZ-ofZ {w = w64} {z = s .args .p .claim} (record { sfits = search needs }) in (
-      λ fs us ts ws cs ready. rw (e, add-one (s .args .p .records), c .before .before .before .before .if1 .left),
-      λ fs us ts ws cs ready. record {
+      λ fs us is ts ws cs ready. rw (e, add-one (s .args .p .records), c .before .before .before .before .if1 .left),
+      λ fs us is ts ws cs ready. record {
+        kept = ready .kept;
         well = ready .well;
         variables = ready .variables;
         operand = ready .operand;

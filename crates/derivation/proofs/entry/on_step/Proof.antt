@@ -16,15 +16,13 @@ use borrow.Author.Needs.{needs}
 use Rattle.derivation.proofs.Entries.{turned-down}
 use Rattle.run.specs.Boolean.{of-true}
 use Rattle.refusal.specs.declared.Reason.the-variants.{Misplaced, CutShort}
-use Rattle.polynomial.specs.Polynomial.{termsOf}
-use Rattle.configuration.specs.FormLaws.{polynomial-short}
-use Rattle.configuration.specs.Memory.{Memory, memoryOf, linesOf}
+use Rattle.configuration.specs.Memory.{Memory, linesOf}
+use Rattle.configuration.specs.Index.{indexedOf}
 use Rattle.record.specs.Record.{amountIn}
 use Rattle.record.specs.declared.Amount.the-variants.{Whole}
 use Rattle.record.proofs.Bodies.{amount-whole}
 use Rattle.calculus.specs.Calculus.{leftOf, leaves}
 use Rattle.calculus.specs.declared.Answer.{Answer}
-use Rattle.polynomial.specs.PolynomialLaws.{terms-of}
 use Rattle.derivation.specs.Derivation.{onStep}
 use Rattle.derivation.specs.Held.{progressOf}
 use Rattle.derivation.proofs.Steps.{step-misplaced, step-unset, step-cut, step-refused, step-accepted}
@@ -34,7 +32,7 @@ use Rattle.derivation.proofs.entry.on_step.Tie as tie
 
 -- where the amount is read
 abbrev start : tie.After-read-amount → tie.Start
-start k = k .before .before .before .before .before .before .before .before .before .before .before
+start k = k .before .before .before .before .before .before .before .before .before .before .before .before
 
 abbrev bytes : tie.Start → List ℕ
 bytes s = now (s .args .bytes)
@@ -55,29 +53,29 @@ refused-requires c κs = search needs
 
 returns : tie.Need-returns
 returns c =
-    let s = c .before .before .before .before .before .before .before .before in
+    let s = c .before .before .before .before .before .before .before .before .before in
     let a = s .args in
     let p = a .p in
     let k = sym (c .before .before .is-going .ensures) ∙ not-true (c .before .before .is-going .result) (c .before .if1 .taken) in
-    let x = onStep (a .rule) (bytes s) (progressOf p (now (a .first)) (now (a .work)) (now (a .terms)) (now (a .weights)) (now (a .counts))) in
-    turned-down (p .head .variables) p (now (a .first)) (now (a .work)) (now (a .terms)) (now (a .weights)) (now (a .counts)) (s .pre .1)
+    let x = onStep (a .rule) (bytes s) (progressOf p (now (a .first)) (now (a .work)) (now (a .index)) (now (a .terms)) (now (a .weights)) (now (a .counts))) in
+    turned-down (p .head .variables) p (now (a .first)) (now (a .work)) (now (a .index)) (now (a .terms)) (now (a .weights)) (now (a .counts)) (s .pre .1)
     Misplaced (c .refused .result) (c .refused .ensures) x
-    (step-misplaced (bytes s) p (now (a .first)) (now (a .work)) (now (a .terms)) (now (a .weights)) (now (a .counts)) (a .rule) k)
+    (step-misplaced (bytes s) p (now (a .first)) (now (a .work)) (now (a .index)) (now (a .terms)) (now (a .weights)) (now (a .counts)) (a .rule) k)
 
 refused-requires-2 : tie.Need-refused-requires-2
 refused-requires-2 c κs = search needs
 
 returns-2 : tie.Need-returns-2
 returns-2 c =
-    let s = c .before .before .before .before .before .before .before .before .before .before in
+    let s = c .before .before .before .before .before .before .before .before .before .before .before in
     let a = s .args in
     let p = a .p in
     let g = c .before .before .before .before .is-going in
     let k = sym (g .ensures) ∙ not-false (g .result) (c .before .before .before .if1 .left) in
-    let x = onStep (a .rule) (bytes s) (progressOf p (now (a .first)) (now (a .work)) (now (a .terms)) (now (a .weights)) (now (a .counts))) in
-    turned-down (p .head .variables) p (now (a .first)) (now (a .work)) (now (a .terms)) (now (a .weights)) (now (a .counts)) (s .pre .1)
+    let x = onStep (a .rule) (bytes s) (progressOf p (now (a .first)) (now (a .work)) (now (a .index)) (now (a .terms)) (now (a .weights)) (now (a .counts))) in
+    turned-down (p .head .variables) p (now (a .first)) (now (a .work)) (now (a .index)) (now (a .terms)) (now (a .weights)) (now (a .counts)) (s .pre .1)
     Misplaced (c .refused2 .result) (c .refused2 .ensures) x
-    (step-unset (bytes s) p (now (a .first)) (now (a .work)) (now (a .terms)) (now (a .weights)) (now (a .counts)) (a .rule)
+    (step-unset (bytes s) p (now (a .first)) (now (a .work)) (now (a .index)) (now (a .terms)) (now (a .weights)) (now (a .counts)) (a .rule)
     k (not-true (p .chosen) (c .before .if2 .taken)))
 
 add-body : tie.Need-add-body
@@ -102,69 +100,43 @@ returns-3 c =
     let a = s .args in
     let p = a .p in
     let d = sym (k .read-amount .ensures) ∙ c .before .enum-told .given .1 in
-    let x = onStep (a .rule) (bytes s) (progressOf p (now (a .first)) (now (a .work)) (now (a .terms)) (now (a .weights)) (now (a .counts))) in
-    turned-down (p .head .variables) p (now (a .first)) (now (a .work)) (now (a .terms)) (now (a .weights)) (now (a .counts)) (s .pre .1)
+    let x = onStep (a .rule) (bytes s) (progressOf p (now (a .first)) (now (a .work)) (now (a .index)) (now (a .terms)) (now (a .weights)) (now (a .counts))) in
+    turned-down (p .head .variables) p (now (a .first)) (now (a .work)) (now (a .index)) (now (a .terms)) (now (a .weights)) (now (a .counts)) (s .pre .1)
     CutShort (c .refused3 .result) (c .refused3 .ensures) x
-    (step-cut (bytes s) p (now (a .first)) (now (a .work)) (now (a .terms)) (now (a .weights)) (now (a .counts)) (a .rule) (going-on k) (is-set k) d)
+    (step-cut (bytes s) p (now (a .first)) (now (a .work)) (now (a .index)) (now (a .terms)) (now (a .weights)) (now (a .counts)) (a .rule) (going-on k) (is-set k) d)
 
-slice-aggregate-load : tie.Need-slice-aggregate-load
-slice-aggregate-load c =
-    let s = start (c .before .before .before .before) in
+slice-aggregate-step : tie.Need-slice-aggregate-step
+slice-aggregate-step c =
+    let s = start (c .before .before .before .before .before .before .before .before .before) in
     sym (length-take-le (s .args .p .first) (now (s .args .first)) (omega (arith, s .pre .1 .first-room, s .pre .1 .first-area)))
 
-load-requires : tie.Need-load-requires
-load-requires c κs =
-    let s = start (c .before .before .before .before) in
-    polynomial-short (s .args .p .head .variables) (take (s .args .p .first) (now (s .args .first))) (s .pre .1 .operand)
-
-slice-aggregate-load-2 : tie.Need-slice-aggregate-load-2
-slice-aggregate-load-2 c =
-    let s = start (c .before .before .before .before .before .before) in
+slice-aggregate-step-2 : tie.Need-slice-aggregate-step-2
+slice-aggregate-step-2 c =
+    let s = start (c .before .before .before .before .before .before .before .before .before .before) in
     sym (length-take-le (s .args .p .work) (now (s .args .work)) (omega (arith, s .pre .1 .room, s .pre .1 .area)))
 
-load-requires-2 : tie.Need-load-requires-2
-load-requires-2 c κs =
-    let s = start (c .before .before .before .before .before .before) in
-    polynomial-short (s .args .p .head .variables) (take (s .args .p .work) (now (s .args .work))) (s .pre .1 .polynomial)
-
--- where the two polynomials are loaded
-abbrev came : tie.After-load2 → tie.Start
-came l = start (l .before .before .before .before .before .before .before)
-
-first-is : (l : tie.After-load2) → (let a = came l .args in termsOf (l .before .before .load .result) ≡ take (a .p .first) (now (a .first)))
-first-is l = let a = came l .args in terms-of (take (a .p .first) (now (a .first))) (l .before .before .load .result) (l .before .before .load .ensures)
-
-work-is : (l : tie.After-load2) → (let a = came l .args in termsOf (l .load2 .result) ≡ take (a .p .work) (now (a .work)))
-work-is l = let a = came l .args in terms-of (take (a .p .work) (now (a .work))) (l .load2 .result) (l .load2 .ensures)
-
 step-requires : tie.Need-step-requires
-step-requires c κs =
-    let l = c .before .before .before .before in
-    let s = came l in
-    (s .pre .1 .well, rw (first-is l) (s .pre .1 .operand), rw (work-is l) (s .pre .1 .polynomial))
+step-requires c κs = let r = start (c .before .before .before .before .before .before .before .before .before .before) .pre .1 in (r .kept, r .well, r .operand, r .polynomial)
 
 -- where the step was taken
-abbrev amount : tie.After-step → ℤ
-amount t = t .before .before .before .before .before .before .before .before .before .before .amount .given .0 .0
+abbrev came : tie.After-step → tie.Start
+came t = start (t .before .before .before .before .before .before .before .before .before .before .before)
 
-read : (t : tie.After-step)
-    → (let s = start (t .before .before .before .before .before .before .before .before .before .before .before .before) in
-    amountIn (bytes s) (s .args .p .at + 1) ≡ Whole (amount t))
-read t =
-    sym (t .before .before .before .before .before .before .before .before .before .before .before .before .read-amount .ensures)
-    ∙ t .before .before .before .before .before .before .before .before .before .before .amount .given .1
+abbrev amount : tie.After-step → ℤ
+amount t = t .before .before .before .before .before .before .before .before .before .amount .given .0 .0
+
+read : (t : tie.After-step) → amountIn (bytes (came t)) (came t .args .p .at + 1) ≡ Whole (amount t)
+read t = sym (t .before .before .before .before .before .before .before .before .before .before .before .read-amount .ensures) ∙ t .before .before .before .before .before .before .before .before .before .amount .given .1
 
 abbrev last : tie.After-step → Memory
-last t = memoryOf (t .step .result .head) (t .step .last .1 .0) (t .step .last .1 .1 .0) (t .step .last .1 .1 .1 .0)
+last t = indexedOf (t .step .result .head) (t .step .last .1 .0) (t .step .last .1 .1 .0) (t .step .last .1 .1 .1 .0) (t .step .last .1 .1 .1 .1 .0)
 
 told : (t : tie.After-step)
-    → (let a = start (t .before .before .before .before .before .before .before .before .before .before .before .before) .args in
-    let m = memoryOf (a .p .head) (now (a .terms)) (now (a .weights)) (now (a .counts)) in
+    → (let a = came t .args in
+    let m = indexedOf (a .p .head) (now (a .index)) (now (a .terms)) (now (a .weights)) (now (a .counts)) in
     leftOf (last t) (t .step .result .answer)
     ≡ leaves m (C.step (a .rule) (a .p .mode) (take (a .p .first) (now (a .first))) (take (a .p .work) (now (a .work))) (amount t) (linesOf m)))
-told t =
-    let l = t .before .before .before .before .before in
-    rw (toZ-ofZ {w = w64} {z = amount t} (record { sfits = search needs }), first-is l, work-is l) at (t .step .ensures)
+told t = rw (toZ-ofZ {w = w64} {z = amount t} (record { sfits = search needs })) at (t .step .ensures .0)
 
 enum-known-answer : tie.Need-enum-known-answer
 enum-known-answer c = search needs
@@ -181,16 +153,19 @@ same-length-2 c = search needs
 same-length-3 : tie.Need-same-length-3
 same-length-3 c = search needs
 
+same-length-4 : tie.Need-same-length-4
+same-length-4 c = search needs
+
 returns-4 : tie.Need-returns-4
 returns-4 c =
-    let t = c .before .before .before .before .before .before .before .before .before .before in
-    let k = t .before .before .before .before .before .before .before .before .before .before .before .before in
+    let t = c .before .before .before .before .before .before .before .before .before .before .before .before in
+    let k = t .before .before .before .before .before .before .before .before .before .before .before in
     let s = start k in
     let a = s .args in
     let d = c .before .before .answer in
-    step-refused (bytes s) (a .p) (now (a .first)) (now (a .work)) (now (a .terms)) (now (a .weights)) (now (a .counts)) (a .rule)
+    step-refused (bytes s) (a .p) (now (a .first)) (now (a .work)) (now (a .index)) (now (a .terms)) (now (a .weights)) (now (a .counts)) (a .rule)
     (going-on k) (is-set k) (amount t) (read t) (a .p .head .variables) (s .pre .1)
-    (t .step .result .head) (t .step .last .1 .0) (t .step .last .1 .1 .0) (t .step .last .1 .1 .1 .0) (d .given .0 .0) (d .given .0 .1 .0)
+    (t .step .result .head) (t .step .last .1 .0) (t .step .last .1 .1 .0) (t .step .last .1 .1 .1 .0) (t .step .last .1 .1 .1 .1 .0) (t .step .ensures .1) (d .given .0 .0) (d .given .0 .1 .0)
     (ap (λ (x : Answer). leftOf (last t) x) (sym (d .given .1)) ∙ told t) (c .refused4 .result) (c .refused4 .ensures)
 
 enum-told-2 : tie.Need-enum-told-2
@@ -198,16 +173,13 @@ enum-told-2 c = search needs
 
 accepted-requires : tie.Need-accepted-requires
 accepted-requires c κs =
-    let t = c .before .before .before .before .before .before .before .before in
-    let s = start (t .before .before .before .before .before .before .before .before .before .before .before .before) in
+    let t = c .before .before .before .before .before .before .before .before .before .before in
+    let s = came t in
     let p = s .args .p in
     let h : p .at + 1 + 8 ≤ length (bytes s) =
     leb→le (p .at + 1 + 8) (length (bytes s)) (of-true (amount-whole (bytes s) (p .at + 1) (amount t) (read t) .0)) in
     let b = s .good .0 in
     (omega (arith, h, b), omega (arith, h, b, s .pre .1 .counted))
-
-same-length-4 : tie.Need-same-length-4
-same-length-4 c = search needs
 
 same-length-5 : tie.Need-same-length-5
 same-length-5 c = search needs
@@ -215,15 +187,21 @@ same-length-5 c = search needs
 same-length-6 : tie.Need-same-length-6
 same-length-6 c = search needs
 
+same-length-7 : tie.Need-same-length-7
+same-length-7 c = search needs
+
+same-length-8 : tie.Need-same-length-8
+same-length-8 c = search needs
+
 returns-5 : tie.Need-returns-5
 returns-5 c =
-    let t = c .before .before .before .before .before .before .before .before .before in
-    let k = t .before .before .before .before .before .before .before .before .before .before .before .before in
+    let t = c .before .before .before .before .before .before .before .before .before .before .before in
+    let k = t .before .before .before .before .before .before .before .before .before .before .before in
     let s = start k in
     let a = s .args in
-    step-accepted (bytes s) (a .p) (now (a .first)) (now (a .work)) (now (a .terms)) (now (a .weights)) (now (a .counts)) (a .rule)
+    step-accepted (bytes s) (a .p) (now (a .first)) (now (a .work)) (now (a .index)) (now (a .terms)) (now (a .weights)) (now (a .counts)) (a .rule)
     (going-on k) (is-set k) (amount t) (read t) (a .p .head .variables) (s .pre .1)
-    (t .step .result .head) (t .step .last .1 .0) (t .step .last .1 .1 .0) (t .step .last .1 .1 .1 .0)
+    (t .step .result .head) (t .step .last .1 .0) (t .step .last .1 .1 .0) (t .step .last .1 .1 .1 .0) (t .step .last .1 .1 .1 .1 .0) (t .step .ensures .1)
     (ap (λ (x : Answer). leftOf (last t) x) (sym (c .before .enum-told2 .given .1)) ∙ told t) (c .accepted .result) (c .accepted .ensures)
 
 pub on-step-spec : {M : Type 1} → statement M
@@ -241,20 +219,20 @@ on-step-spec =
     enum-told
     refused-requires-3
     returns-3
-    slice-aggregate-load
-    load-requires
-    slice-aggregate-load-2
-    load-requires-2
+    slice-aggregate-step
+    slice-aggregate-step-2
     step-requires
     enum-known-answer
     refused-requires-4
     same-length
     same-length-2
     same-length-3
+    same-length-4
     returns-4
     enum-told-2
     accepted-requires
-    same-length-4
     same-length-5
     same-length-6
+    same-length-7
+    same-length-8
     returns-5)

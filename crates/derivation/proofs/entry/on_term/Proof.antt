@@ -48,10 +48,10 @@ returns c =
     let b = now (s .args .bytes) in
     let r = c .refused in
     let k = sym (c .before .before .is-going .ensures) ∙ not-true (c .before .before .is-going .result) (c .before .if1 .taken) in (
-      λ fs ts ws cs ready. turned-down n p fs us ts ws cs ready Misplaced (r .result) (r .ensures) (onTerm n b (progressOf p fs us ts ws cs))
-          (term-misplaced n b p fs us ts ws cs k) .0,
-      λ fs ts ws cs ready. turned-down n p fs us ts ws cs ready Misplaced (r .result) (r .ensures) (onTerm n b (progressOf p fs us ts ws cs))
-          (term-misplaced n b p fs us ts ws cs k) .1,
+      λ fs is ts ws cs ready. turned-down n p fs us is ts ws cs ready Misplaced (r .result) (r .ensures) (onTerm n b (progressOf p fs us is ts ws cs))
+          (term-misplaced n b p fs us is ts ws cs k) .0,
+      λ fs is ts ws cs ready. turned-down n p fs us is ts ws cs ready Misplaced (r .result) (r .ensures) (onTerm n b (progressOf p fs us is ts ws cs))
+          (term-misplaced n b p fs us is ts ws cs k) .1,
     )
 
 add-add-term : tie.Need-add-add-term
@@ -86,10 +86,10 @@ returns-2 c =
     let k = c .before .before .turn .given .1 in
     let d = term-refused n b (p .at + 1) us (p .work) (last t) (q .result) (q .ensures .0) reason k in
     let same = term-unmoved n b (p .at + 1) us (p .work) (last t) (q .result) (q .ensures .0) reason k (s .pre .2) (s .pre .3) (long t) (q .ensures .1) in (
-      λ fs ts ws cs ready. refused-in n p fs us ts ws cs ready reason (r .result) (r .ensures) (onTerm n b (progressOf p fs us ts ws cs))
-          (term-down n b p fs us ts ws cs (is-going t) (numberOf reason) d) (last t) (long t) same .0,
-      λ fs ts ws cs ready. refused-in n p fs us ts ws cs ready reason (r .result) (r .ensures) (onTerm n b (progressOf p fs us ts ws cs))
-          (term-down n b p fs us ts ws cs (is-going t) (numberOf reason) d) (last t) (long t) same .1,
+      λ fs is ts ws cs ready. refused-in n p fs us is ts ws cs ready reason (r .result) (r .ensures) (onTerm n b (progressOf p fs us is ts ws cs))
+          (term-down n b p fs us is ts ws cs (is-going t) (numberOf reason) d) (last t) (long t) same .0,
+      λ fs is ts ws cs ready. refused-in n p fs us is ts ws cs ready reason (r .result) (r .ensures) (onTerm n b (progressOf p fs us is ts ws cs))
+          (term-down n b p fs us is ts ws cs (is-going t) (numberOf reason) d) (last t) (long t) same .1,
     )
 
 enum-told : tie.Need-enum-told
@@ -115,8 +115,8 @@ returns-3 c =
     let r = c .accepted in
     let d = term-accepted n b (p .at + 1) us (p .work) (last t) (q .result) (q .ensures .0) k in
     let g = term-keeps n b (p .at + 1) us (p .work) (last t) (q .result) (q .ensures .0) k (s .pre .4) in (
-      λ fs ts ws cs ready. term-up n b p fs us ts ws cs (is-going t) j (last t) d g (q .ensures .1) (long t) ready (r .result) (r .ensures) .0,
-      λ fs ts ws cs ready. term-up n b p fs us ts ws cs (is-going t) j (last t) d g (q .ensures .1) (long t) ready (r .result) (r .ensures) .1,
+      λ fs is ts ws cs ready. term-up n b p fs us is ts ws cs (is-going t) j (last t) d g (q .ensures .1) (long t) ready (r .result) (r .ensures) .0,
+      λ fs is ts ws cs ready. term-up n b p fs us is ts ws cs (is-going t) j (last t) d g (q .ensures .1) (long t) ready (r .result) (r .ensures) .1,
     )
 
 pub on-term-spec : {M : Type 1} → statement M

@@ -23,7 +23,6 @@ use Rattle.walk.specs.Walk.{turnedDown, after}
 use Rattle.problem.specs.Problem.{State, weightFits, onClause}
 use Rattle.problem.specs.ProblemLaws.{clause-polynomial}
 use Rattle.problem.specs.Held.{progressOf}
-use Rattle.problem.specs.declared.Progress.{Progress}
 use Rattle.problem.proofs.Next.{left-by, ready-by, turned-down}
 use Rattle.record.specs.Record.{clauseIn}
 use Rattle.record.specs.declared.Clause.the-variants.{Whole}
@@ -34,18 +33,18 @@ use Rattle.refusal.specs.declared.Reason.the-variants as R
 use Rattle.problem.proofs.entry.on_clause.Tie as tie
 
 abbrev progress : tie.Start → W.Progress State
-progress s = progressOf (s .args .p) (now (s .args .work)) (now (s .args .terms)) (now (s .args .weights)) (now (s .args .counts))
+progress s = progressOf (s .args .p) (now (s .args .work)) (now (s .args .index)) (now (s .args .terms)) (now (s .args .weights)) (now (s .args .counts))
 
 -- a refusal, for the reason that the definition has
 refuse : (s : tie.Start) (reason : Reason) (r : Step) → r ≡ record { progress = s .args .p; turn = Refused reason } → turnedDown (numberOf reason) ≡ onClause (now (s .args .bytes)) (progress s)
     → (let a = s .args in
-    (left-by (now (a .work)) (now (a .terms)) (now (a .weights)) (now (a .counts)) r ≡ after (progress s) (onClause (now (a .bytes)) (progress s)))
-    × ready-by (now (a .work)) (now (a .terms)) (now (a .weights)) (now (a .counts)) r)
-refuse s reason r = let a = s .args in turned-down (now (a .work)) (now (a .terms)) (now (a .weights)) (now (a .counts)) (a .p) (s .pre .1) r reason (onClause (now (a .bytes)) (progress s))
+    (left-by (now (a .work)) (now (a .index)) (now (a .terms)) (now (a .weights)) (now (a .counts)) r ≡ after (progress s) (onClause (now (a .bytes)) (progress s)))
+    × ready-by (now (a .work)) (now (a .index)) (now (a .terms)) (now (a .weights)) (now (a .counts)) r)
+refuse s reason r = let a = s .args in turned-down (now (a .work)) (now (a .index)) (now (a .terms)) (now (a .weights)) (now (a .counts)) (a .p) (s .pre .1) r reason (onClause (now (a .bytes)) (progress s))
 
 -- where the weight is tested
 abbrev start : tie.After-weight-fits → tie.Start
-start c = c .before .before .before .before .before .before .before .before .before .before .before .before .before .before .before .before .before
+start c = c .before .before .before .before .before .before .before .before .before .before .before .before .before .before .before .before .before .before
 
 abbrev plain : tie.After-weight-fits → ℕ
 plain c = c .before .before .before .before .before .before .before .plain .given .0 .0
@@ -81,12 +80,16 @@ tested c = c .before .before .before .before
 made : (c : tie.Else5) → (let k = tested c in (termsOf (c .before .before .clause .result .polynomial) ≡ clauseOf (plain k) (negated k)) × (length (clauseOf (plain k) (negated k)) ≤ 64))
 made c = let k = tested c in outcome-terms (clauseOf (plain k) (negated k)) (c .before .before .clause .result) (c .before .before .clause .ensures) (c .if5 .left)
 
+-- what is lent is the clause
+lent : (c : tie.After-front) → (let k = tested (c .before .before .before .before .before) in now (c .front .result) ≡ clauseOf (plain k) (negated k))
+lent c = c .front .ensures ∙ made (c .before .before .before .before .before) .0
+
 refused-requires : tie.Need-refused-requires
 refused-requires c κs = search needs
 
 returns : tie.Need-returns
 returns c =
-    let s = c .before .before .before .before .before .before .before in
+    let s = c .before .before .before .before .before .before .before .before in
     refuse s R.Misplaced (c .refused .result) (c .refused .ensures)
     (clause-early (now (s .args .bytes)) (progress s) (not-true _ (c .before .if1 .taken)))
 
@@ -107,7 +110,7 @@ refused-requires-2 c κs = search needs
 
 returns-2 : tie.Need-returns-2
 returns-2 c =
-    let s = c .before .before .before .before .before .before .before .before .before .before .before in
+    let s = c .before .before .before .before .before .before .before .before .before .before .before .before in
     refuse s R.CutShort (c .refused2 .result) (c .refused2 .ensures)
     (clause-short (now (s .args .bytes)) (progress s) (not-false _ (c .before .before .before .before .before .if1 .left))
     (sym (c .before .before .before .read-clause .ensures) ∙ c .before .enum-told .given .1))
@@ -120,7 +123,7 @@ refused-requires-3 c κs = search needs
 
 returns-3 : tie.Need-returns-3
 returns-3 c =
-    let s = c .before .before .before .before .before .before .before .before .before .before .before .before .before .before .before in
+    let s = c .before .before .before .before .before .before .before .before .before .before .before .before .before .before .before .before in
     refuse s R.UnknownVariable (c .refused3 .result) (c .refused3 .ensures)
     (plain-unknown (now (s .args .bytes)) (progress s) (not-false _ (c .before .before .before .before .before .before .before .before .before .if1 .left)) _ _ _
     (sym (c .before .before .before .before .before .before .before .read-clause .ensures) ∙ c .before .before .before .before .before .plain .given .1)
@@ -135,7 +138,7 @@ refused-requires-4 c κs = search needs
 returns-4 : tie.Need-returns-4
 returns-4 c =
     let k = c .before .before .before .before .before .before .before in
-    let s = k .before .before .before .before .before .before .before .before .before .before in
+    let s = k .before .before .before .before .before .before .before .before .before .before .before in
     refuse s R.UnknownVariable (c .refused4 .result) (c .refused4 .ensures)
     (negated-unknown (now (s .args .bytes)) (progress s) (not-false _ (k .before .before .before .before .if1 .left)) _ _ _
     (sym (k .before .before .read-clause .ensures) ∙ k .plain .given .1)
@@ -172,17 +175,20 @@ returns-6 c =
     (clause-long (now (s .args .bytes)) (progress s) (begun k) (plain k) (negated k) (weight k) (read k) (plain-known k) (negated-known k)
     (sym (fits k) ∙ not-false _ (c .before .before .before .before .if4 .left)) (rw n at (c .before .if5 .taken)))
 
+front-requires : tie.Need-front-requires
+front-requires c κs = search needs
+
 fold-requires : tie.Need-fold-requires
 fold-requires c κs =
-    let e = c .before .before .before .before in
+    let e = c .before .before .before .before .before .before .before .before .before in
     let k = tested e in
     let s = start k in
     let n = s .args .p .head .variables in (
       s .pre .1,
-      rw (made e .0) (clause-polynomial n (plain k) (negated k) (ltb-true _ _ (plain-known k)) (ltb-true _ _ (negated-known k)) (le→leb _ 64 (made e .1))),
+      rw (lent (c .before .before .before .before)) (clause-polynomial n (plain k) (negated k) (ltb-true _ _ (plain-known k)) (ltb-true _ _ (negated-known k)) (le→leb _ 64 (made e .1))),
       s .pre .1 .room,
       s .pre .1 .polynomial,
-      of-true (sym (k .weight-fits .ensures) ∙ not-false _ (c .before .before .before .before .before .before .before .if4 .left)),
+      of-true (sym (k .weight-fits .ensures) ∙ not-false _ (c .before .before .before .before .before .before .before .before .before .before .before .before .if4 .left)),
       omega arith,
       omega arith,
     )
@@ -196,15 +202,18 @@ same-length-2 c = search needs
 same-length-3 : tie.Need-same-length-3
 same-length-3 c = search needs
 
+same-length-4 : tie.Need-same-length-4
+same-length-4 c = search needs
+
 returns-7 : tie.Need-returns-7
 returns-7 c =
-    let e = c .before .before .before .before .before .before .before .before .before .before in
+    let e = c .before .before .before .before .before .before .before .before .before .before .before .before .before .before .before .before .before in
     let k = tested e in
     let s = start k in
-    let r = c .before .before .before .before .before .fold in (
-      rw (exact k, made e .0) at (r .ensures .0)
+    let r = c .before .before .before .before .before .before .before .fold in (
+      rw (exact k, lent (c .before .before .before .before .before .before .before .before .before .before .before .before)) at (r .ensures .0)
           ∙ ap (after (progress s)) (clause-in (now (s .args .bytes)) (progress s) (begun k) (plain k) (negated k) (weight k) (read k) (plain-known k) (negated-known k)
-          (sym (fits k) ∙ not-false _ (c .before .before .before .before .before .before .before .before .before .before .before .before .before .if4 .left)) (made e .1)),
+          (sym (fits k) ∙ not-false _ (c .before .before .before .before .before .before .before .before .before .before .before .before .before .before .before .before .before .before .before .before .if4 .left)) (made e .1)),
       r .ensures .1,
     )
 
@@ -232,8 +241,10 @@ on-clause-spec =
     clause-requires
     refused-requires-6
     returns-6
+    front-requires
     fold-requires
     same-length
     same-length-2
     same-length-3
+    same-length-4
     returns-7)

@@ -29,9 +29,9 @@ returns c =
     let s = c .before .before .before .before .before in
     let a = s .args in
     let p = a .p in
-    for-lines p (c .refused .result) (onTerm (now (a .bytes))) (now (a .work)) (now (a .work)) (λ ts ws cs h.
-    turned-down (now (a .work)) ts ws cs p h (c .refused .result) R.Misplaced _ (c .refused .ensures)
-    (term-early (now (a .bytes)) (progressOf p (now (a .work)) ts ws cs) (not-true _ (c .before .if1 .taken))))
+    for-lines p (c .refused .result) (onTerm (now (a .bytes))) (now (a .work)) (now (a .work)) (λ is ts ws cs h.
+    turned-down (now (a .work)) is ts ws cs p h (c .refused .result) R.Misplaced _ (c .refused .ensures)
+    (term-early (now (a .bytes)) (progressOf p (now (a .work)) is ts ws cs) (not-true _ (c .before .if1 .taken))))
 
 add-add-term : tie.Need-add-add-term
 add-add-term c = search needs
@@ -68,9 +68,9 @@ returns-2 c =
     let p = a .p in
     let r = k .add-term in
     let e = c .before .before .turn .given .1 in
-    for-lines p (c .refused2 .result) (onTerm (now (a .bytes))) (now (a .work)) (left k) (λ ts ws cs h.
-    term-down (now (a .work)) ts ws cs p h (c .refused2 .result) _ _ (c .refused2 .ensures)
-    (term-not (now (a .bytes)) (progressOf p (now (a .work)) ts ws cs) (not-false _ (k .before .before .before .before .if1 .left)) _
+    for-lines p (c .refused2 .result) (onTerm (now (a .bytes))) (now (a .work)) (left k) (λ is ts ws cs h.
+    term-down (now (a .work)) is ts ws cs p h (c .refused2 .result) _ _ (c .refused2 .ensures)
+    (term-not (now (a .bytes)) (progressOf p (now (a .work)) is ts ws cs) (not-false _ (k .before .before .before .before .if1 .left)) _
     (term-refused (p .head .variables) (now (a .bytes)) (p .at + 1) (now (a .work)) (p .work) (left k) (r .result) (r .ensures .0) _ e))
     (left k) (area g)
     (term-unmoved (p .head .variables) (now (a .bytes)) (p .at + 1) (now (a .work)) (p .work) (left k) (r .result) (r .ensures .0) _ e
@@ -94,11 +94,11 @@ returns-3 c =
     let p = a .p in
     let r = k .add-term in
     let e = c .before .enum-told .given .1 in
-    for-lines p (c .accepted .result) (onTerm (now (a .bytes))) (now (a .work)) (left k) (λ ts ws cs h.
-    summed (now (a .work)) ts ws cs p h (c .accepted .result) 5 _ _ (c .accepted .ensures) (left k) (area g) (r .ensures .1)
+    for-lines p (c .accepted .result) (onTerm (now (a .bytes))) (now (a .work)) (left k) (λ is ts ws cs h.
+    summed (now (a .work)) is ts ws cs p h (c .accepted .result) 5 _ _ (c .accepted .ensures) (left k) (area g) (r .ensures .1)
     (term-keeps (p .head .variables) (now (a .bytes)) (p .at + 1) (now (a .work)) (p .work) (left k) (r .result) (r .ensures .0) e (h .polynomial))
     refl (omega arith) _
-    (term-kept (now (a .bytes)) (progressOf p (now (a .work)) ts ws cs) (not-false _ (k .before .before .before .before .if1 .left)) _
+    (term-kept (now (a .bytes)) (progressOf p (now (a .work)) is ts ws cs) (not-false _ (k .before .before .before .before .if1 .left)) _
     (term-accepted (p .head .variables) (now (a .bytes)) (p .at + 1) (now (a .work)) (p .work) (left k) (r .result) (r .ensures .0) e)))
 
 pub on-term-spec : {M : Type 1} → statement M

@@ -29,9 +29,9 @@ returns : tie.Need-returns
 returns c =
     let s = c .before .before .before in
     let p = s .args .p in
-    for-all p (c .refused .result) (onVariables (now (s .args .bytes))) (λ us ts ws cs h.
-    turned-down us ts ws cs p h (c .refused .result) R.Misplaced _ (c .refused .ensures)
-    (second (now (s .args .bytes)) (progressOf p us ts ws cs) (c .before .if1 .taken)))
+    for-all p (c .refused .result) (onVariables (now (s .args .bytes))) (λ us is ts ws cs h.
+    turned-down us is ts ws cs p h (c .refused .result) R.Misplaced _ (c .refused .ensures)
+    (second (now (s .args .bytes)) (progressOf p us is ts ws cs) (c .before .if1 .taken)))
 
 add-read-byte : tie.Need-add-read-byte
 add-read-byte c = search needs
@@ -52,9 +52,9 @@ returns-2 : tie.Need-returns-2
 returns-2 c =
     let s = c .before .before .before .before .before .before .before in
     let p = s .args .p in
-    for-all p (c .refused2 .result) (onVariables (now (s .args .bytes))) (λ us ts ws cs h.
-    turned-down us ts ws cs p h (c .refused2 .result) R.CutShort _ (c .refused2 .ensures)
-    (variables-cut (now (s .args .bytes)) (progressOf p us ts ws cs) (c .before .before .before .before .before .if1 .left)
+    for-all p (c .refused2 .result) (onVariables (now (s .args .bytes))) (λ us is ts ws cs h.
+    turned-down us is ts ws cs p h (c .refused2 .result) R.CutShort _ (c .refused2 .ensures)
+    (variables-cut (now (s .args .bytes)) (progressOf p us is ts ws cs) (c .before .before .before .before .before .if1 .left)
     (sym (c .before .before .before .read-byte .ensures) ∙ c .before .enum-told .given .1)))
 
 refused-requires-3 : tie.Need-refused-requires-3
@@ -65,9 +65,9 @@ returns-3 c =
     let k = c .before .before in
     let s = start k in
     let p = s .args .p in
-    for-all p (c .refused3 .result) (onVariables (now (s .args .bytes))) (λ us ts ws cs h.
-    turned-down us ts ws cs p h (c .refused3 .result) R.TooManyVariables _ (c .refused3 .ensures)
-    (too-many (now (s .args .bytes)) (progressOf p us ts ws cs) (c .before .before .before .before .before .before .before .if1 .left) _ (read k) (c .before .if2 .taken)))
+    for-all p (c .refused3 .result) (onVariables (now (s .args .bytes))) (λ us is ts ws cs h.
+    turned-down us is ts ws cs p h (c .refused3 .result) R.TooManyVariables _ (c .refused3 .ensures)
+    (too-many (now (s .args .bytes)) (progressOf p us is ts ws cs) (c .before .before .before .before .before .before .before .if1 .left) _ (read k) (c .before .if2 .taken)))
 
 cast-t11 : tie.Need-cast-t11
 cast-t11 c = search needs
@@ -80,10 +80,10 @@ returns-4 c =
     let k = c .before .before in
     let s = start k in
     let p = s .args .p in
-    for-all p (c .accepted .result) (onVariables (now (s .args .bytes))) (λ us ts ws cs h.
-    set us ts ws cs p h (c .accepted .result) 2 _ _ (c .accepted .ensures)
+    for-all p (c .accepted .result) (onVariables (now (s .args .bytes))) (λ us is ts ws cs h.
+    set us is ts ws cs p h (c .accepted .result) 2 _ _ (c .accepted .ensures)
     (c .before .before .before .before .before .before .before .if1 .left) refl (c .before .if2 .left) refl (omega arith) _
-    (variables-set (now (s .args .bytes)) (progressOf p us ts ws cs) (c .before .before .before .before .before .before .before .if1 .left) _ (read k) (c .before .if2 .left)))
+    (variables-set (now (s .args .bytes)) (progressOf p us is ts ws cs) (c .before .before .before .before .before .before .before .if1 .left) _ (read k) (c .before .if2 .left)))
 
 pub on-variables-spec : {M : Type 1} → statement M
 on-variables-spec =

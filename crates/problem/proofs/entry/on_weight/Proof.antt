@@ -4,7 +4,7 @@ use mathlib.Core.Bool.{true}
 use Prim.Native.Nat.{_+_, _≤_}
 use native.Mathlib.Omega.{arith}
 use lib.IntN.{ℤ}
-use lib.ListN.{length, take}
+use lib.ListN.{length}
 use lib.Seq.{length-take-le}
 use mir.Syntax.{w64}
 use mir.Val.{toZ, ofZ}
@@ -13,13 +13,10 @@ use denote.Ref.{now}
 use borrow.Author.Needs.{needs}
 use borrow.Author.Tests.{not-true, not-false}
 use Rattle.run.specs.Boolean.{of-true}
-use Rattle.polynomial.specs.Polynomial.{termsOf}
 use Rattle.configuration.specs.FormLaws.{none-polynomial}
 use Rattle.walk.specs.Walk.{after}
-use Rattle.polynomial.specs.PolynomialLaws.{terms-of}
 use Rattle.problem.specs.Problem.{State, weightFits, onWeight}
 use Rattle.problem.specs.Held.{progressOf}
-use Rattle.problem.specs.declared.Progress.{Progress}
 use Rattle.problem.proofs.Next.{turned-down}
 use Rattle.record.specs.Record.{amountIn}
 use Rattle.record.specs.declared.Amount.the-variants.{Whole}
@@ -30,18 +27,18 @@ use Rattle.refusal.specs.declared.Reason.the-variants as R
 use Rattle.problem.proofs.entry.on_weight.Tie as tie
 
 abbrev progress : tie.Start → W.Progress State
-progress s = progressOf (s .args .p) (now (s .args .work)) (now (s .args .terms)) (now (s .args .weights)) (now (s .args .counts))
+progress s = progressOf (s .args .p) (now (s .args .work)) (now (s .args .index)) (now (s .args .terms)) (now (s .args .weights)) (now (s .args .counts))
 
 refused-requires : tie.Need-refused-requires
 refused-requires c κs = search needs
 
 returns : tie.Need-returns
 returns c =
-    let s = c .before .before .before .before .before .before .before in
-    let p = s .args .p in
-    turned-down (now (s .args .work)) (now (s .args .terms)) (now (s .args .weights)) (now (s .args .counts)) p (s .pre .1) (c .refused .result) R.Misplaced
-    (onWeight (now (s .args .bytes)) (progress s)) (c .refused .ensures)
-    (weight-early (now (s .args .bytes)) (progress s) (not-true _ (c .before .if1 .taken)))
+    let s = c .before .before .before .before .before .before .before .before in
+    let a = s .args in
+    turned-down (now (a .work)) (now (a .index)) (now (a .terms)) (now (a .weights)) (now (a .counts)) (a .p) (s .pre .1) (c .refused .result) R.Misplaced
+    (onWeight (now (a .bytes)) (progress s)) (c .refused .ensures)
+    (weight-early (now (a .bytes)) (progress s) (not-true _ (c .before .if1 .taken)))
 
 add-read-amount : tie.Need-add-read-amount
 add-read-amount c = search needs
@@ -60,16 +57,16 @@ refused-requires-2 c κs = search needs
 
 returns-2 : tie.Need-returns-2
 returns-2 c =
-    let s = c .before .before .before .before .before .before .before .before .before .before .before in
-    let p = s .args .p in
-    turned-down (now (s .args .work)) (now (s .args .terms)) (now (s .args .weights)) (now (s .args .counts)) p (s .pre .1) (c .refused2 .result) R.CutShort
-    (onWeight (now (s .args .bytes)) (progress s)) (c .refused2 .ensures)
-    (weight-cut (now (s .args .bytes)) (progress s) (not-false _ (c .before .before .before .before .before .if1 .left))
+    let s = c .before .before .before .before .before .before .before .before .before .before .before .before in
+    let a = s .args in
+    turned-down (now (a .work)) (now (a .index)) (now (a .terms)) (now (a .weights)) (now (a .counts)) (a .p) (s .pre .1) (c .refused2 .result) R.CutShort
+    (onWeight (now (a .bytes)) (progress s)) (c .refused2 .ensures)
+    (weight-cut (now (a .bytes)) (progress s) (not-false _ (c .before .before .before .before .before .if1 .left))
     (sym (c .before .before .before .read-amount .ensures) ∙ c .before .enum-told .given .1))
 
 -- where the weight is tested
 abbrev start : tie.After-weight-fits → tie.Start
-start c = c .before .before .before .before .before .before .before .before .before .before .before .before
+start c = c .before .before .before .before .before .before .before .before .before .before .before .before .before
 
 begun : (c : tie.After-weight-fits) → start c .args .p .started ≡ true
 begun c = not-false _ (c .before .before .before .before .before .before .if1 .left)
@@ -96,41 +93,27 @@ returns-3 : tie.Need-returns-3
 returns-3 c =
     let k = c .before .before in
     let s = start k in
-    let p = s .args .p in
-    turned-down (now (s .args .work)) (now (s .args .terms)) (now (s .args .weights)) (now (s .args .counts)) p (s .pre .1) (c .refused3 .result) R.OutOfRange
-    (onWeight (now (s .args .bytes)) (progress s)) (c .refused3 .ensures)
-    (weight-out (now (s .args .bytes)) (progress s) (begun k) (weight k) (read k) (sym (fits k) ∙ not-true _ (c .before .if2 .taken)))
+    let a = s .args in
+    turned-down (now (a .work)) (now (a .index)) (now (a .terms)) (now (a .weights)) (now (a .counts)) (a .p) (s .pre .1) (c .refused3 .result) R.OutOfRange
+    (onWeight (now (a .bytes)) (progress s)) (c .refused3 .ensures)
+    (weight-out (now (a .bytes)) (progress s) (begun k) (weight k) (read k) (sym (fits k) ∙ not-true _ (c .before .if2 .taken)))
 
--- where the work polynomial is loaded
-abbrev tested : tie.After-load-arg → tie.After-weight-fits
-tested c = c .before .before
-
-short : (c : tie.After-load-arg) → (let a = start (tested c) .args in length (take (a .p .work) (a .work .now)) ≡ a .p .work)
-short c =
-    let s = start (tested c) in
+slice-aggregate-f : tie.Need-slice-aggregate-f
+slice-aggregate-f c =
+    let s = start (c .before .before) in
     let h : s .args .p .work ≤ length (s .args .work .now) = rw (s .pre .1 .area) (s .pre .1 .room) in
-    length-take-le (s .args .p .work) (s .args .work .now) h
-
-held : (c : tie.After-load) → termsOf (c .load .result) ≡ (let a = start (tested (c .before)) .args in take (a .p .work) (a .work .now))
-held c = terms-of _ (c .load .result) (c .load .ensures)
-
-slice-aggregate-load : tie.Need-slice-aggregate-load
-slice-aggregate-load c = sym (short c)
-
-load-requires : tie.Need-load-requires
-load-requires c κs = rw (short c) (start (tested c) .pre .1 .room)
+    sym (length-take-le (s .args .p .work) (s .args .work .now) h)
 
 fold-requires : tie.Need-fold-requires
 fold-requires c κs =
-    let l = c .before .before .before in
-    let k = tested (l .before) in
+    let l = c .before .before .before .before in
+    let k = l .before .before in
     let s = start k in (
       s .pre .1,
-      rw (held l) (s .pre .1 .polynomial),
+      s .pre .1 .polynomial,
       omega arith,
       none-polynomial (s .args .p .head .variables),
-      of-true
-          (sym (k .weight-fits .ensures) ∙ not-false _ (l .before .before .if2 .left)),
+      of-true (sym (k .weight-fits .ensures) ∙ not-false _ (l .before .if2 .left)),
       omega arith,
       omega arith,
     )
@@ -144,15 +127,18 @@ same-length-2 c = search needs
 same-length-3 : tie.Need-same-length-3
 same-length-3 c = search needs
 
+same-length-4 : tie.Need-same-length-4
+same-length-4 c = search needs
+
 returns-4 : tie.Need-returns-4
 returns-4 c =
-    let l = c .before .before .before .before .before .before .before .before .before in
-    let k = tested (l .before) in
+    let l = c .before .before .before .before .before .before .before .before .before .before .before .before in
+    let k = l .before .before in
     let s = start k in
-    let r = c .before .before .before .before .before .fold in (
-      rw (exact k, held l) at (r .ensures .0)
+    let r = c .before .before .before .before .before .before .before .fold in (
+      rw (exact k) at (r .ensures .0)
           ∙ ap (after (progress s)) (weight-in (now (s .args .bytes)) (progress s) (begun k) (weight k) (read k)
-          (sym (fits k) ∙ not-false _ (l .before .before .if2 .left))),
+          (sym (fits k) ∙ not-false _ (l .before .if2 .left))),
       r .ensures .1,
     )
 
@@ -171,10 +157,10 @@ on-weight-spec =
     weight-fits-requires
     refused-requires-3
     returns-3
-    slice-aggregate-load
-    load-requires
+    slice-aggregate-f
     fold-requires
     same-length
     same-length-2
     same-length-3
+    same-length-4
     returns-4)

@@ -1,0 +1,108 @@
+// The index of a table: the order of its lines, while the lines themselves stay in their rows.
+use term::key_by;
+use term::table::byte_degrees;
+ghost use mathlib.Core.Path.{_≡_};
+ghost use mathlib.Core.List.{_++_, map};
+ghost use Prim.Native.Nat.{_+_, _*_, _≤_, _<_};
+ghost use lib.ListN.{length, getD, take, drop};
+ghost use Rattle.configuration.specs.Index.{rowOf, arranged, Once, ahead as leading, Falling, inTurn};
+ghost use Rattle.configuration.specs.Settling.{exchanged, relabelled};
+
+// The row of the line at a place.
+pub fn row_at(index: &[u64], at: usize) -> usize
+    requires { ⌜ at < length (now index) ⌝ }
+    ensures { λ r. ⌜ r ≡ rowOf (getD (now (index .entry)) at 0) ⌝ }
+{
+    let entry = index[at];
+    (entry % 128) as usize
+}
+
+// How many of the first entries have a key above the given one, by halving. It is for the search, whose keys fall.
+pub fn ahead(lines: usize, index: &[u64], key: u64) -> usize
+    requires { ⌜ (lines ≤ length (now index)) × Falling (take lines (now index)) ⌝ }
+    ensures { λ r. ⌜ r ≡ leading key (take lines (now (index .entry))) ⌝ }
+{
+    let mut low: usize = 0;
+    let mut high = lines;
+    while low < high {
+        let middle = low + (high - low) / 2;
+        let entry = index[middle];
+        if key < entry / 128 {
+            low = middle + 1;
+        } else {
+            high = middle;
+        }
+    }
+    low
+}
+
+// The index of a table whose lines stand in turn: the first in row 0, and so on.
+pub fn in_turn(terms: &[u32]) -> [u64; 128]
+    requires { ⌜ length (now terms) ≡ 8192 ⌝ }
+    ensures { λ r. ⌜ r ≡ inTurn 128 0 (now (terms .entry)) ⌝ }
+{
+    let table = byte_degrees();
+    let mut index = [0u64; 128];
+    let mut i: usize = 0;
+    while i < 128 {
+        let first = terms[64 * i];
+        index[i] = 128 * key_by(&table, first) + (i as u64);
+        i += 1;
+    }
+    index
+}
+
+// Exchanges two rows of a term area, the earlier one first.
+fn exchange(terms: &mut [u32], a: usize, b: usize)
+    requires { ⌜ (a < b) × (64 * b + 64 ≤ length (now terms)) ⌝ }
+    ensures { λ _. ⌜ now (terms .exit) ≡ exchanged 64 a b (now (terms .entry)) ⌝ }
+{
+    let left = 64 * a;
+    let right = 64 * b;
+    let mut i: usize = 0;
+    while i < 64 {
+        let x = terms[left + i];
+        let y = terms[right + i];
+        terms[left + i] = y;
+        terms[right + i] = x;
+        i += 1;
+    }
+}
+
+// Gives the entries from a place on that have one row another.
+fn relabel(index: &mut [u64], from: usize, row: u64, other: u64)
+    requires { ⌜ from ≤ length (now index) ⌝ }
+    ensures { λ _. ⌜ now (index .exit) ≡ take from (now (index .entry)) ++ relabelled row other (drop from (now (index .entry))) ⌝ }
+{
+    let mut i = from;
+    while i < index.len() {
+        let entry = index[i];
+        if entry % 128 == row {
+            index[i] = other;
+        }
+        i += 1;
+    }
+}
+
+// Puts the lines in turn: each in the row of its place.
+pub fn settle(index: [u64; 128], terms: &mut [u32], weights: &mut [i64], counts: &mut [u32])
+    requires { ⌜ Once 128 index × (length (now terms) ≡ 8192) × (length (now weights) ≡ 128) × (length (now counts) ≡ 128) ⌝ }
+    ensures { λ _. ⌜ (now (terms .exit) ≡ arranged 64 index (now (terms .entry))) × (now (weights .exit) ≡ arranged 1 index (now (weights .entry))) × (now (counts .exit) ≡ arranged 1 index (now (counts .entry))) ⌝ }
+{
+    let mut left = index;
+    let mut i: usize = 0;
+    while i < 128 {
+        let row = row_at(&left, i);
+        if row != i {
+            exchange(terms, i, row);
+            let weight = weights[i];
+            weights[i] = weights[row];
+            weights[row] = weight;
+            let count = counts[i];
+            counts[i] = counts[row];
+            counts[row] = count;
+            relabel(&mut left, i + 1, i as u64, row as u64);
+        }
+        i += 1;
+    }
+}
