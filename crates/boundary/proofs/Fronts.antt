@@ -6,8 +6,8 @@ use native.Mathlib.Nat.{zero-add}
 use borrow.Author.Tests.{le-leb, lt-leb}
 use lib.ListN.{length, drop}
 use Rattle.listing.specs.Writing.{overwritten}
-use Rattle.report.specs.Report.{Told, Left, checkOfFiles, codeOfFile, writeReport}
-use Rattle.boundary.specs.Boundary.{Given, sizeOf, checkInto, codeInto}
+use Rattle.report.specs.Report.{Told, sizeOf, Left, checkOfFiles, codeOfFile, writeReport}
+use Rattle.boundary.specs.Boundary.{Given, checkInto, codeInto}
 
 -- a report, whether it was written or not
 pub reported : (problem steps area b : List ℕ) (t : Told) (n : ℕ)

@@ -5,15 +5,11 @@ use mathlib.Core.List.{List, _++_}
 use Prim.Native.Nat.{ℕ}
 use lib.Dec.{leb}
 use lib.ListN.{length, drop}
-use Rattle.report.specs.Report.{Told, written, tooShort, checkOfFiles, codeOfFile, writeReport}
+use Rattle.report.specs.Report.{sizeOf, checkOfFiles, codeOfFile, writeReport}
 
 pub record Given : Type 0 where
   pub area : List ℕ
   pub size : ℕ
-
-abbrev pub sizeOf : Told → ℕ
-sizeOf (written n) = n
-sizeOf tooShort = 0
 
 -- all that the checking program prints of its two files
 abbrev pub checkInto : List ℕ → List ℕ → List ℕ → Given

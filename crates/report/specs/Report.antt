@@ -80,6 +80,11 @@ pub data Told : Type 0 where
   written : ℕ → Told
   tooShort : Told
 
+-- how many bytes were written
+abbrev pub sizeOf : Told → ℕ
+sizeOf (written n) = n
+sizeOf tooShort = 0
+
 abbrev pub toldOf : Report → Told
 toldOf (Written n) = written n
 toldOf TooShort = tooShort

@@ -6,16 +6,11 @@ use native.Mathlib.Omega.{arith}
 use lib.Dec.{leb}
 use lib.ListN.{length, drop, length-append}
 use Rattle.run.specs.Boolean.{cond-ind}
-use Rattle.report.specs.Report.{Told, written, tooShort, Left, writeReport}
+use Rattle.report.specs.Report.{Told, written, sizeOf, Left, writeReport}
 
--- how many bytes were written
-abbrev size : Told → ℕ
-size (written n) = n
-size tooShort = 0
-
-all-fits : (text area : List ℕ) → size (writeReport text area .told) ≤ length (writeReport text area .area)
+all-fits : (text area : List ℕ) → sizeOf (writeReport text area .told) ≤ length (writeReport text area .area)
 unfolding writeReport
-all-fits text area = cond-ind (leb 2179648 (length area)) (λ (l : Left). size (l .told) ≤ length (l .area))
+all-fits text area = cond-ind (leb 2179648 (length area)) (λ (l : Left). sizeOf (l .told) ≤ length (l .area))
     (λ t. omega (arith, length-append text (drop (length text) area)))
     (λ t. omega arith)
 
@@ -24,5 +19,5 @@ pub report-fits : (text area b : List ℕ) (t : Told) (n : ℕ) → _≡_ {A = L
 report-fits text area b t n e w =
     let l : b ≡ writeReport text area .area = ap (λ (x : Left). x .area) e in
     let k : t ≡ writeReport text area .told = ap (λ (x : Left). x .told) e in
-    let i : n ≡ size (writeReport text area .told) = ap size (sym w ∙ k) in
+    let i : n ≡ sizeOf (writeReport text area .told) = ap sizeOf (sym w ∙ k) in
     rw (i, l) (all-fits text area)

@@ -1,9 +1,8 @@
 -- `ittavluna_check` meets its contract: a report's length as a number.
 use mathlib.Core.Path.{sym, ap}
 use borrow.Author.Needs.{needs}
-use Rattle.report.specs.Report.{toldOf}
+use Rattle.report.specs.Report.{toldOf, sizeOf}
 use Rattle.report.specs.declared.Report.{Report}
-use Rattle.boundary.specs.Boundary.{sizeOf}
 use Rattle.boundary.proofs.Fronts.{reported}
 use Rattle.boundary.proofs.ittavluna_check.Statement.{statement}
 use Rattle.boundary.proofs.ittavluna_check.Tie as tie
