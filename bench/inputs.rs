@@ -440,24 +440,32 @@ fn near_clause(set: u32, points: &[u32]) -> Poly {
     poly
 }
 
-/// (c) Clauses of six plain literals, sums of clauses of 64 and 32 terms, and products of some 60 by 60 terms. Both operands of each
-/// product lie in the same six variables, which is the best case of a product by a table; no workload times long products over many.
-pub fn long_lines(seed: u64) -> Input {
+/// A polynomial times a term.
+fn times(f: &Poly, mask: u32) -> Poly {
+    poly(&f.terms().iter().map(|&k| k as u32 | mask).collect::<Vec<u32>>())
+}
+
+/// (c) Clauses of six plain literals, sums of clauses of 64 and 32 terms, and products of some 60 by 60 terms, of which 64 or fewer are
+/// left. The operands of a product lie in the same six variables; where they are `spread`, the clauses have twelve negated literals
+/// besides, and the factors are multiplied by terms of these, so that a product has 18 variables.
+pub fn long_lines(seed: u64, spread: bool) -> Input {
     let r = &mut Random(seed);
     let mut problem = vec![v(32), c(0, 0, 5)];
     let mut steps = vec![b"N".to_vec()];
     loop {
         let mut bits: Vec<u32> = (0..32).collect();
         r.mix(&mut bits);
-        let set = bits[..6].iter().fold(0, |set, &b| set | 1 << b);
+        let some = |from: usize, to: usize| bits[from..to].iter().fold(0, |set, &b| set | 1 << b);
+        let set = some(0, 6);
+        let (left, right) = if spread { (some(6, 18), some(6, 12)) } else { (0, 0) };
         let bit = 1 << bits[0];
         // the same clause with one literal negated
-        problem.extend([c(set, 0, 4), c(set & !bit, bit, 4)]);
-        let mut new = step(true, &Poly::clause(set, 0).unwrap(), &Poly::clause(set & !bit, bit).unwrap(), 3);
+        problem.extend([c(set, left, 4), c(set & !bit, left | bit, 4)]);
+        let mut new = step(true, &Poly::clause(set, left).unwrap(), &Poly::clause(set & !bit, left | bit).unwrap(), 3);
         // points with one variable, or two, left out
         let point = |i: usize| set & !(1 << bits[i]);
-        let f = near_clause(set, &[point(1), point(2), point(3)]);
-        let g = near_clause(set, &[point(1), point(4) & point(5)]);
+        let f = times(&near_clause(set, &[point(1), point(2), point(3)]), left);
+        let g = times(&near_clause(set, &[point(1), point(4) & point(5)]), right);
         problem.extend(terms(&f));
         problem.push(amount(b'W', 6));
         new.extend(step(false, &f, &g, 5));

@@ -185,7 +185,7 @@ fn time(sides: &mut Sides, workload: &Workload) {
     let (all, taken) = (mean(&|i| records(&i.steps).0), mean(&|i| records(&i.steps).1));
     let rate = |t: f64| (filing + steps) * 1000.0 / t;
     println!(
-        "{:<16}{lines:>6}{filing:>8.0}{steps:>6.0}{all:>6.0}{taken:>6.0}{proved:>12.0}{plain:>11.0}{:>10.0}{:>9.0}{:>10.0}{:>9.0}{:>9.2}{:>9.2}{:>8.2}",
+        "{:<17}{lines:>5}{filing:>8.0}{steps:>6.0}{all:>6.0}{taken:>6.0}{proved:>12.0}{plain:>11.0}{:>10.0}{:>9.0}{:>10.0}{:>9.0}{:>9.2}{:>9.2}{:>8.2}",
         workload.name,
         proved / taken,
         plain / taken,
@@ -206,7 +206,8 @@ fn main() {
     let mut workloads = vec![
         Workload { name: "(a) whole case".into(), inputs: vec![inputs::whole_case()] },
         Workload { name: "(b) short lines".into(), inputs: several.clone().map(|seed| inputs::many_short_lines(seed, checker)).collect() },
-        Workload { name: "(c) long lines".into(), inputs: several.map(inputs::long_lines).collect() },
+        Workload { name: "(c) 6 variables".into(), inputs: several.clone().map(|seed| inputs::long_lines(seed, false)).collect() },
+        Workload { name: "(c) 18 variables".into(), inputs: several.map(|seed| inputs::long_lines(seed, true)).collect() },
     ];
     for lines in [8, 16, 32, 64, 96, 120] {
         workloads.push(Workload { name: format!("(d) {lines} lines"), inputs: vec![inputs::lines_held(lines)] });
@@ -235,7 +236,7 @@ fn main() {
     println!();
     println!("{:<24}{:>12}{:>12}{:>23}{:>19}{:>19}{:>18}", "", "bytes", "records", "ns a check", "ns, by steps", "ns a step alone", "MB a second");
     println!(
-        "{:<16}{:>6}{:>8}{:>6}{:>6}{:>6}{:>12}{:>11}{:>10}{:>9}{:>10}{:>9}{:>9}{:>9}{:>8}",
+        "{:<17}{:>5}{:>8}{:>6}{:>6}{:>6}{:>12}{:>11}{:>10}{:>9}{:>10}{:>9}{:>9}{:>9}{:>8}",
         "", "lines", "filing", "steps", "all", "S, P", "proved", "plain", "proved", "plain", "proved", "plain", "proved", "plain", "ratio"
     );
     for workload in &workloads {
