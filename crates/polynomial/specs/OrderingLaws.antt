@@ -1,13 +1,12 @@
 -- The order of polynomials is strict and total.
-use mathlib.Core.Path.{_≡_, refl, sym, ap, ap₂, _∙_, subst}
+use mathlib.Core.Path.{_≡_, refl, sym, ap, ap₂, _∙_}
 use mathlib.Core.Logic.{_⊎_, inl, inr}
-use mathlib.Core.Bool.{Bool, true, false, cond}
 use mathlib.Core.List.{List, [], _∷_}
 use Prim.Native.Nat.{ℕ}
 use native.Mathlib.Omega.{arith}
 use lib.Dec.{T, eqb, eqb→eq}
 use Rattle.term.specs.Term.{before}
-use Rattle.run.specs.Boolean.{is-true, is-false, eqb-self, eq→eqb}
+use Rattle.run.specs.Boolean.{is-true, is-false, eqb-self}
 use Rattle.term.specs.OrderLaws.{before-irrefl, before-trans, before-total}
 use Rattle.polynomial.specs.Polynomial.{orderOf}
 use Rattle.polynomial.specs.declared.Ordering.{Ordering}

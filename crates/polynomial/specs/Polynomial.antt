@@ -1,6 +1,6 @@
 -- Polynomials over F2. Document 01: "A polynomial is a set of at most 64 terms. Adding the same term twice removes it."
 -- Here a polynomial is the list of its terms in strict written order, of any length; the limit of 64 is the struct's.
-use mathlib.Core.Bool.{Bool, true, false, cond, not, _&&_, _||_}
+use mathlib.Core.Bool.{Bool, false, cond, not, _&&_, _||_}
 use mathlib.Core.List.{List, [], _∷_, _++_, map}
 use Prim.Native.Nat.{ℕ, zero, suc, _-_, _/_, _%_, _^_, _<_}
 use lib.Dec.{T, eqb, leb}

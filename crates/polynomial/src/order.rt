@@ -1,10 +1,9 @@
 // The order of polynomials.
 use crate::Ordering;
-use term::table::byte_degrees;
 ghost use mathlib.Core.Path.{_≡_};
 ghost use Prim.Native.Nat.{min, _≤_};
 ghost use lib.ListN.{length};
-ghost use Rattle.term.specs.Term.{before, byteDegrees};
+ghost use Rattle.term.specs.Term.{before};
 ghost use Rattle.run.specs.Run.{sorted};
 ghost use Rattle.polynomial.specs.Polynomial.{orderOf};
 
@@ -20,22 +19,13 @@ pub fn least(a: usize, b: usize) -> usize
 pub fn compare(f: &[u32], g: &[u32]) -> Ordering
     ensures { λ r. ⌜ r ≡ orderOf (now (f .entry)) (now (g .entry)) ⌝ }
 {
-    let table = byte_degrees();
-    compare_by(&table, f, g)
-}
-
-// The same by a lent table of degrees. It is for this crate and configuration, whose search takes the table once.
-pub fn compare_by(table: &[u8; 256], f: &[u32], g: &[u32]) -> Ordering
-    requires { ⌜ now table ≡ byteDegrees ⌝ }
-    ensures { λ r. ⌜ r ≡ orderOf (now (f .entry)) (now (g .entry)) ⌝ }
-{
     let shorter = least(f.len(), g.len());
     let mut i: usize = 0;
     while i < shorter {
         let a = f[i];
         let b = g[i];
         if a != b {
-            if term::precedes_by(table, a, b) {
+            if term::precedes(a, b) {
                 return Ordering::Earlier;
             }
             return Ordering::Later;

@@ -37,13 +37,21 @@ pub fn degree(mask: u32) -> u32
     degree_by(&table, mask)
 }
 
-// Whether a stands before b in the written order: the higher degree first, at equal degree the larger mask. It is for the
-// crate polynomial alone, whose searches take the table once and lend it.
+// Whether a stands before b in the written order: the higher degree first, at equal degree the larger mask. It is for this
+// crate and the search of the crate polynomial, which takes the table once and lends it.
 pub fn precedes_by(table: &[u8; 256], a: u32, b: u32) -> bool
     requires { ⌜ now table ≡ byteDegrees ⌝ }
     ensures { λ r. ⌜ r ≡ before a b ⌝ }
 {
     key_by(table, b) < key_by(table, a)
+}
+
+// The same for a single comparison.
+pub fn precedes(a: u32, b: u32) -> bool
+    ensures { λ r. ⌜ r ≡ before a b ⌝ }
+{
+    let table = byte_degrees();
+    precedes_by(&table, a, b)
 }
 
 // One number for a term, degree * 2^32 + mask: its descending order is the written order. It is for this crate and

@@ -1,10 +1,9 @@
 -- `collect` meets its contract. The invariant: the masks of the keys passed stand in front, and zeros after them.
-use mathlib.Core.Path.{_≡_, refl, sym, ap, ap₂, _∙_}
-use mathlib.Core.List.{_++_, map}
-use Prim.Native.Nat.{ℕ, _-_, _≤_}
+use mathlib.Core.Path.{_≡_, refl, sym}
+use mathlib.Core.List.{map}
+use Prim.Native.Nat.{_-_, _≤_}
 use native.Mathlib.Omega.{arith}
-use lib.ListN.{length, take, drop, replicate, length-map, take-append-drop, length-set}
-use lib.Seq.{take-length}
+use lib.ListN.{length, take, drop, replicate, length-map, length-set}
 use denote.Ref.{now}
 use borrow.Author.Needs.{needs}
 use Rattle.term.proofs.Fill.{fill-more}

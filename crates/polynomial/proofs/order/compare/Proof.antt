@@ -1,4 +1,4 @@
--- `compare_by` meets its contract. The invariant: what is left of both is ordered as the whole.
+-- `compare` meets its contract. The invariant: what is left of both is ordered as the whole.
 use mathlib.Core.Path.{_≡_, sym, _∙_}
 use mathlib.Core.Bool.{true, false}
 use Prim.Native.Nat.{_-_, _≤_, min}
@@ -8,14 +8,14 @@ use denote.Ref.{now}
 use borrow.Author.Needs.{needs}
 use Rattle.polynomial.specs.Polynomial.{orderOf}
 use Rattle.polynomial.proofs.OrderSteps.{same-term, other-term, ended-first, ended-last, ended-both}
-use Rattle.polynomial.proofs.order.compare_by.Statement.{statement}
-use Rattle.polynomial.proofs.order.compare_by.Tie as tie
+use Rattle.polynomial.proofs.order.compare.Statement.{statement}
+use Rattle.polynomial.proofs.order.compare.Tie as tie
 
 abbrev Inv-loop : tie.InvT-loop
-Inv-loop table f g shorter i₀ i = (i ≤ shorter) × (shorter ≡ min (length f) (length g)) × (orderOf (drop i f) (drop i g) ≡ orderOf f g)
+Inv-loop f g shorter i₀ i = (i ≤ shorter) × (shorter ≡ min (length f) (length g)) × (orderOf (drop i f) (drop i g) ≡ orderOf f g)
 
 abbrev μ-loop : tie.MeasureT-loop
-μ-loop table f g shorter i₀ i = shorter - i
+μ-loop f g shorter i₀ i = shorter - i
 
 least-requires : tie.Need-least-requires Inv-loop μ-loop
 least-requires c κs = search needs
@@ -35,8 +35,8 @@ mul-b c = search needs
 shared-slice-read-b : tie.Need-shared-slice-read-b Inv-loop μ-loop
 shared-slice-read-b c = search needs
 
-precedes-by-requires : tie.Need-precedes-by-requires Inv-loop μ-loop
-precedes-by-requires c κs = search needs
+precedes-requires : tie.Need-precedes-requires Inv-loop μ-loop
+precedes-requires c κs = search needs
 
 returns : tie.Need-returns Inv-loop μ-loop
 returns c =
@@ -44,7 +44,7 @@ returns c =
     let a = c .before .before .before .before .before .before .before .before .before .before .args in
     let f = now (a .f) in
     let g = now (a .g) in
-    let o = sym (c .before .precedes-by .ensures) ∙ c .if2 .taken in
+    let o = sym (c .before .precedes .ensures) ∙ c .if2 .taken in
     sym (sym (l .inv .2) ∙ other-term f g (l .i) true (omega arith) (omega arith) (c .before .before .if1 .taken) o)
 
 returns-2 : tie.Need-returns-2 Inv-loop μ-loop
@@ -53,7 +53,7 @@ returns-2 c =
     let a = c .before .before .before .before .before .before .before .before .before .before .args in
     let f = now (a .f) in
     let g = now (a .g) in
-    let o = sym (c .before .precedes-by .ensures) ∙ c .if2 .left in
+    let o = sym (c .before .precedes .ensures) ∙ c .if2 .left in
     sym (sym (l .inv .2) ∙ other-term f g (l .i) false (omega arith) (omega arith) (c .before .before .if1 .taken) o)
 
 add-i : tie.Need-add-i Inv-loop μ-loop
@@ -94,8 +94,8 @@ returns-5 c =
     let g = now (a .g) in
     sym (sym (l .inv .2) ∙ ended-both f g (l .i) (omega arith) (omega arith))
 
-pub compare-by-spec : {M : Type 1} → statement M
-compare-by-spec =
+pub compare-spec : {M : Type 1} → statement M
+compare-spec =
     tie.close
     (tie.spec
     Inv-loop
@@ -106,7 +106,7 @@ compare-by-spec =
     shared-slice-read-a
     mul-b
     shared-slice-read-b
-    precedes-by-requires
+    precedes-requires
     returns
     returns-2
     add-i
