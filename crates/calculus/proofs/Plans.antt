@@ -1,7 +1,7 @@
 -- The tests of an amount, the bits of its negation and its double, what the answer for an exact result says of that result, and changes that are folded
 -- one by one into a table of four.
 use mathlib.Core.Path.{_≡_, refl, sym, ap, subst, _∙_}
-use mathlib.Core.Bool.{Bool, true, false, not, and-false, true≢false}
+use mathlib.Core.Bool.{true, false, not, and-false, true≢false}
 use mathlib.Core.List.{List, [], _∷_, _++_}
 use Prim.Native.Nat.{ℕ, zero, suc, _+_, _-_, _≤_, _<_, _^_}
 use native.Mathlib.Nat.{le-trans}
@@ -19,11 +19,10 @@ use Rattle.run.specs.Boolean.{of-true}
 use Rattle.polynomial.specs.Polynomial.{sumOf, productOf, Below, termsOf, outcomeOf}
 use Rattle.polynomial.specs.PolynomialLaws.{product-plus-one, terms-of}
 use Rattle.polynomial.specs.declared.Outcome.{Outcome}
-use Rattle.configuration.specs.Weight.{limit, inRange, isZero}
-use Rattle.configuration.specs.Configuration.{Line, line, weight, add, addAll, negated, Ordered, Every, isPolynomial, linesFit}
-use Rattle.configuration.specs.ConfigurationLaws.{add-ordered, all-ordered, all-fit}
+use Rattle.configuration.specs.Weight.{limit, inRange}
+use Rattle.configuration.specs.Configuration.{Line, line, weight, add, addAll, negated, Every, isPolynomial, linesFit}
+use Rattle.configuration.specs.ConfigurationLaws.{all-ordered, all-fit}
 use Rattle.configuration.specs.FormLaws.{polynomial-below}
-use Rattle.configuration.specs.PlaceLaws.{toNat, grown}
 use Rattle.configuration.specs.Memory.{Memory, imageOf, formed, linesOf}
 use Rattle.configuration.specs.MemoryLaws.{every-append, fits-short, there-and-back, image-formed}
 use Rattle.configuration.specs.Replacement.{Small}
@@ -31,6 +30,7 @@ use Rattle.configuration.specs.ReplacementLaws.{mag-add, netted-weight, netted-
 use Rattle.configuration.specs.Index.{indexedOf, linesBy, Kept}
 use Rattle.configuration.specs.TurnLaws.{empty, four-kept, four-memory}
 use Rattle.configuration.specs.declared.Head.{Head}
+use Rattle.configuration.proofs.Replacements.{all-snoc, small-snoc, add-short, all-short}
 use Rattle.calculus.specs.Calculus.{conclusions, changes, amountFits, allShort}
 use Rattle.calculus.specs.CalculusLaws.{changes-fit}
 use Rattle.calculus.specs.declared.plan.Plan.{Plan}
@@ -125,30 +125,6 @@ small-changes Sum f g w h = let k = twice-small w h in (k .1 .0, (k .1 .0, (k .0
 small-changes Prod f g w h = let k = twice-small w h in (k .1 .0, (k .0, (k .0, tt)))
 
 -- ---- changes folded one by one
-all-snoc : (C L : List Line) (f : List ℕ) (w : ℤ) → addAll (C ++ (line f w ∷ [])) L ≡ add f w (addAll C L)
-unfolding addAll
-all-snoc [] L f w = refl
-all-snoc (line g u ∷ C) L f w = all-snoc C (add g u L) f w
-
-small-snoc : (k : ℕ) (C : List Line) (f : List ℕ) (w : ℤ) → Small k C → mag w < 2 ^ k → Small k (C ++ (line f w ∷ []))
-small-snoc k [] f w s h = (h, tt)
-small-snoc k (line g u ∷ C) f w s h = (s .0, small-snoc k C f w (s .1) h)
-
--- each makes the table longer by one line at most
-add-length : (f : List ℕ) (w : ℤ) (L : List Line) → Ordered L → length (add f w L) ≤ suc (length L)
-unfolding add
-add-length [] w L r = omega arith
-add-length (t ∷ f) w L r = go (isZero (weight L (t ∷ f) +ℤ w)) (grown (t ∷ f) w L tt r)
-  where
-    go : (b : Bool) → length (add (t ∷ f) w L) + toNat (not (isZero (weight L (t ∷ f)))) ≡ length L + toNat (not b) → length (add (t ∷ f) w L) ≤ suc (length L)
-    go true h = omega arith
-    go false h = omega arith
-
-all-length : (C L : List Line) → Ordered L → length (addAll C L) ≤ length L + length C
-unfolding addAll
-all-length [] L r = omega arith
-all-length (line f w ∷ C) L r = omega (arith, all-length C (add f w L) (add-ordered f w L r), add-length f w L r)
-
 -- a table of four has the changes C: small amounts of polynomials of n variables
 pub record Folded (n : ℕ) (C : List Line) (h : Head) (is ts : List ℕ) (ws : List ℤ) (cs : List ℕ) : Type 0 where
   pub memory : indexedOf h is ts ws cs ≡ imageOf 4 n (addAll C [])
@@ -181,7 +157,7 @@ module _ {n : ℕ} {C : List Line} {h : Head} {is ts : List ℕ} {ws : List ℤ}
 
   pub folded-formed : length C ≤ 4 → T (formed 4 (indexedOf h is ts ws cs))
   folded-formed l =
-      subst (λ (m : Memory). T (formed 4 m)) (sym (k .memory)) (image-formed 4 n (addAll C []) (omega (arith, all-length C [] tt)) folded-fit)
+      subst (λ (m : Memory). T (formed 4 m)) (sym (k .memory)) (image-formed 4 n (addAll C []) (omega (arith, all-short C [] tt)) folded-fit)
 
   pub folded-variables : h .variables ≡ n
   folded-variables = ap (λ (m : Memory). m .variables) (k .memory)
@@ -202,7 +178,7 @@ module _ {n : ℕ} {C : List Line} {h : Head} {is ts : List ℕ} {ws : List ℤ}
           subst (λ (c : ℕ). T (formed c (indexedOf h is ts ws cs))) (sym counts-four) (folded-formed (omega arith)),
           rw (ex, folded-variables) p,
           s,
-          omega (arith, ap length added-lines, add-length f w (addAll C []) (all-ordered C [] tt), all-length C [] tt, counts-four),
+          omega (arith, ap length added-lines, add-short f w (addAll C []) (all-ordered C [] tt), all-short C [] tt, counts-four),
         )
 
     pub fold-given : {h′ : Head} {is′ ts′ : List ℕ} {ws′ : List ℤ} {cs′ : List ℕ} → Given h is ts ws cs x v h′ is′ ts′ ws′ cs′

@@ -1,7 +1,7 @@
 -- The steps of the test 'well formed', over plain lists: the range of a weight, the bound of a term, a line, the unused places, the lines one by one,
 -- and the parts of the whole test.
 use mathlib.Core.Path.{_≡_, refl, sym, ap, _∙_}
-use mathlib.Core.Bool.{Bool, true, false, cond, not, _&&_, true≢false}
+use mathlib.Core.Bool.{Bool, true, false, not, _&&_, true≢false}
 use mathlib.Core.List.{List, [], _∷_}
 use Prim.Native.Nat.{ℕ, zero, suc, _+_, _-_, _*_, _%_, _^_, _≤_, _<_}
 use native.Mathlib.Nat.{one-mul, le-of-suc-le-suc, not-suc-le-zero}
@@ -17,8 +17,8 @@ use borrow.Author.Tests.{lt-ltb, le-leb, lt-leb, ltb-true, ltb-false}
 use Rattle.run.specs.Boolean.{left, right}
 use Rattle.polynomial.specs.Polynomial.{orderOf}
 use Rattle.polynomial.specs.declared.Ordering.the-variants.{Earlier}
-use Rattle.configuration.specs.Weight.{inRange, allInRange, isZero, isNegative, noneNegative}
-use Rattle.configuration.specs.Configuration.{Line, line, some, byOrder, isPolynomial, lineFits, linesFit, weightsFit, anyNegative}
+use Rattle.configuration.specs.Weight.{inRange, allInRange, isZero}
+use Rattle.configuration.specs.Configuration.{Line, line, some, byOrder, isPolynomial, lineFits, linesFit, weightsFit}
 use Rattle.configuration.specs.Memory.{Memory, readLines, zeros, zeroWeights, laidOut, sized, formed, wellFormed}
 use Rattle.configuration.specs.FormLaws.{sized-not, sized-is}
 use Rattle.configuration.specs.MemoryLaws.{length-lines, line-at, laid-step, laid-end}
@@ -188,16 +188,6 @@ unfolding readLines weightsFit allInRange
 weights-lines zero ts ws cs h = refl
 weights-lines (suc k) ts [] cs h = absurd (not-suc-le-zero h)
 weights-lines (suc k) ts (w ∷ ws) cs h = ap (λ (b : Bool). inRange w && b) (weights-lines k (drop 64 ts) ws (drop 1 cs) (le-of-suc-le-suc h))
-
-pub none-negative-lines : (k : ℕ) (ts : List ℕ) (ws : List ℤ) (cs : List ℕ) → k ≤ length ws → anyNegative (readLines k ts ws cs) ≡ not (noneNegative (take k ws))
-unfolding readLines anyNegative noneNegative
-none-negative-lines zero ts ws cs h = refl
-none-negative-lines (suc k) ts [] cs h = absurd (not-suc-le-zero h)
-none-negative-lines (suc k) ts (w ∷ ws) cs h = rw (none-negative-lines k (drop 64 ts) ws (drop 1 cs) (le-of-suc-le-suc h)) (go (isNegative w) (noneNegative (take k ws)))
-  where
-    go : (x y : Bool) → cond x true (not y) ≡ not (not x && y)
-    go true y = refl
-    go false y = refl
 
 -- ---- the test, part by part
 module _ (n k : ℕ) (ts : List ℕ) (ws : List ℤ) (cs : List ℕ) where

@@ -27,6 +27,12 @@ ahead-below k zero (e ∷ is) l h = rw (le-ltb k (keyIn e) h) (omega arith)
 ahead-below k (suc i) (e ∷ is) l h =
     cond-ind (ltb k (keyIn e)) (λ (n : ℕ). n ≤ suc i) (λ t. omega (arith, ahead-below k i is (le-of-suc-le-suc l) h)) (λ t. omega arith)
 
+-- so each of them has a key above
+pub ahead-higher : (k i : ℕ) (is : List ℕ) → i < ahead k is → k < keyIn (getD is i 0)
+ahead-higher k i is l =
+    let n : keyIn (getD is i 0) ≤ k → ⊥ = λ h. omega (arith, ahead-le k is, ahead-below k i is (omega (arith, ahead-le k is)) h) in
+    omega arith
+
 -- where the keys fall, one that is above is among them
 pub ahead-above : (k i : ℕ) (is : List ℕ) → Falling is → i < length is → k < keyIn (getD is i 0) → i < ahead k is
 unfolding ahead

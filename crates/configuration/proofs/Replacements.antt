@@ -3,15 +3,15 @@ use mathlib.Core.Path.{_≡_, refl, sym, ap, ap₂, _∙_, subst}
 use mathlib.Core.Logic.{inl, inr}
 use mathlib.Core.Bool.{Bool, true, false, not, cond, Bool·beq}
 use mathlib.Core.List.{List, [], _∷_, _++_, append-nil}
-use Prim.Native.Nat.{ℕ, zero, suc, _+_, _*_, _^_, _≤_, _<_}
+use Prim.Native.Nat.{ℕ, zero, suc, _+_, _-_, _*_, _^_, _≤_, _<_}
 use native.Mathlib.Nat.{le-of-suc-le-suc, not-suc-le-zero}
 use native.Mathlib.Numerals.{add-one}
 use native.Mathlib.Omega.{arith}
 use lib.Dec.{T, eqb, leb, eqb→eq, leb→le}
 use lib.IntN.{ℤ, pos, _+ℤ_}
 use lib.Signed.{mag}
-use lib.ListN.{length, getD, set, take, drop, length-take, drop-of-length-le}
-use lib.Seq.{drop-cons, take-suc-set, append-snoc}
+use lib.ListN.{length, getD, set, take, drop, replicate, length-take, length-set, drop-of-length-le}
+use lib.Seq.{drop-cons, take-suc-set, append-snoc, set-getD, getD-set-other}
 use mir.Syntax.{w64}
 use mir.Val.{SFits, toZ, ofZ}
 use denote.Enum.Declared.{tagOf}
@@ -19,15 +19,16 @@ use types.Run.{OneOf}
 use borrow.Author.Tests.{lt-leb, le-leb}
 use Rattle.run.specs.Boolean.{bool-ext, is-true, of-true}
 use Rattle.configuration.specs.Weight.{limit, isZero, allInRange}
-use Rattle.configuration.specs.Configuration.{Line, line, some, weight, add, addAll, Ordered, Every, isPolynomial, linesFit}
+use Rattle.configuration.specs.Configuration.{Line, line, some, weight, add, addAll, Behind, Ordered, Every, placeOf, isPolynomial, linesFit}
 use Rattle.configuration.specs.Memory.{Memory, readLines, linesOf, rows, weightsOf, countsOf, imageOf, formed, wellFormed}
-use Rattle.configuration.specs.Index.{rowOf, arranged, indexedOf, linesBy, Once, Kept}
-use Rattle.configuration.specs.Replacement.{taken, unless, Small, Replacement, after, replaced, replacementOf, weightsBefore, weightsAfter, countHeld, chosen, Room, verdictOf}
+use Rattle.configuration.specs.Index.{rowOf, arranged, indexedOf, linesBy, Kept}
+use Rattle.configuration.specs.Replacement.{taken, unless, Small, Replacement, after, replaced, replacementOf, weightsBefore, weightsAfter, placesIn, countHeld, chosen, Placed, shifted, Room, verdictOf}
 use Rattle.configuration.specs.Sums.{zero-is}
 use Rattle.configuration.specs.ConfigurationLaws.{add-ordered, add-every, fit-ordered, fit-every, fits, all-fit}
-use Rattle.configuration.specs.PlaceLaws.{toNat, grown}
+use Rattle.configuration.specs.PlaceLaws.{toNat, grown, weight-other, not-same}
 use Rattle.configuration.specs.MemoryLaws.{well-formed, weights-bound, Formed, formed-parts, formed-image, image-formed, there-and-back, fits-short, length-lines, line-at}
-use Rattle.configuration.specs.ReplacementLaws.{after-length, mag-add, netted-weight, netted-small, replace-is, replaced-netted, chosen-every, two-passes, room-first, room-last, room-length, length-after}
+use Rattle.configuration.specs.ReplacementLaws.{after-length, mag-add, netted-weight, netted-small, replace-is, replaced-netted, chosen-every, two-passes, room-first, room-last, room-length, length-after, length-before, length-places, length-shifted, shifted-take}
+use Rattle.configuration.specs.PlacedLaws.{place-behind, placed-first, placed-rest}
 use Rattle.configuration.specs.IndexLaws.{row-is, value-is}
 use Rattle.configuration.specs.declared.Head.{Head}
 use Rattle.configuration.specs.declared.Verdict.{Verdict}
@@ -35,6 +36,7 @@ use Rattle.configuration.specs.declared.Verdict.the-variants.{Done, TooM
 use Rattle.configuration.proofs.Verdict.{the-type}
 use Rattle.configuration.proofs.Areas.{read-back, is-zero}
 use Rattle.configuration.proofs.Forms.{rowAt, laid-short}
+use Rattle.configuration.proofs.Tables.{row-below}
 
 abbrev pub none : Line
 none = line [] (pos 0)
@@ -110,11 +112,6 @@ module _ (c : ℕ) (m : Memory) (t : T (formed c m)) where
         (ordered-some (linesOf m) table-ordered) in-lines line-here
 
 -- ---- line i of a table, read through its index, in the row r of the areas
-row-below : (c i : ℕ) (is : List ℕ) → Once c is → i < length is → rowOf (getD is i 0) < c
-row-below c i [] o h = absurd (not-suc-le-zero h)
-row-below c zero (e ∷ is) o h = o .0
-row-below c (suc i) (e ∷ is) o h = row-below c i is (o .1 .1) (le-of-suc-le-suc h)
-
 pub record Read (m : Memory) (i : ℕ) (ts : List ℕ) (ws : List ℤ) (cs : List ℕ) (r : ℕ) : Type 0 where
   pub low : r < 128
   pub in-weights : r < length ws
@@ -164,26 +161,28 @@ module _ (c : ℕ) (m m′ : Memory) (f : List ℕ) (w : ℤ) (t : T (formed c m
   pub added-variables : m′ .variables ≡ m .variables
   added-variables = ap (λ (x : Memory). x .variables) e
 
--- what folding in asks and gives, in a table of k places, which are c
+-- what folding in at a place asks and gives, in a table of k places, which are c
 module _ (k c : ℕ) (e : k ≡ c) (h : Head) (is ts : List ℕ) (ws : List ℤ) (cs : List ℕ) where
-  pub fold-asks : (f : List ℕ) (w : ℤ) → Kept c h is ts ws cs → T (formed c (indexedOf h is ts ws cs)) → T (isPolynomial (h .variables) f)
+  pub fold-asks : (a : ℕ) (u : ℤ) (f : List ℕ) (w : ℤ) → Kept c h is ts ws cs → T (formed c (indexedOf h is ts ws cs)) → T (isPolynomial (h .variables) f)
+      → T (some f) → a ≡ placeOf f (linesBy h is ts ws cs) → u ≡ weight (linesBy h is ts ws cs) f
       → mag (weight (linesBy h is ts ws cs) f +ℤ w) < 2 ^ 63 → length (add f w (linesBy h is ts ws cs)) ≤ c
-      → Kept k h is ts ws cs × T (formed k (indexedOf h is ts ws cs)) × T (isPolynomial (h .variables) f) × (mag (weight (linesBy h is ts ws cs) f +ℤ w) < 2 ^ 63)
-      × (length (add f w (linesBy h is ts ws cs)) ≤ k)
-  fold-asks f w o t q s l =
-      (subst (λ (n : ℕ). Kept n h is ts ws cs) (sym e) o, subst (λ (n : ℕ). T (formed n (indexedOf h is ts ws cs))) (sym e) t, q, s, omega arith)
+      → Kept k h is ts ws cs × T (formed k (indexedOf h is ts ws cs)) × T (isPolynomial (h .variables) f) × T (some f)
+      × (a ≡ placeOf f (linesBy h is ts ws cs)) × (u ≡ weight (linesBy h is ts ws cs) f)
+      × (mag (weight (linesBy h is ts ws cs) f +ℤ w) < 2 ^ 63) × (length (add f w (linesBy h is ts ws cs)) ≤ k)
+  fold-asks a u f w o t q n x y s l =
+      (subst (λ (n : ℕ). Kept n h is ts ws cs) (sym e) o, subst (λ (n : ℕ). T (formed n (indexedOf h is ts ws cs))) (sym e) t, q, n, x, y, s, omega arith)
 
   pub fold-gives : (n : ℕ) (L : List Line) → (indexedOf h is ts ws cs ≡ imageOf k n L) × Kept k h is ts ws cs
       → (indexedOf h is ts ws cs ≡ imageOf c n L) × Kept c h is ts ws cs
   fold-gives n L x = (x .0 ∙ ap (λ (j : ℕ). imageOf j n L) e, subst (λ (n : ℕ). Kept n h is ts ws cs) e (x .1))
 
 -- ---- at most four changes, folded one by one into an empty table of four: those of C are in
-all-snoc : (C L : List Line) (f : List ℕ) (w : ℤ) → addAll (C ++ (line f w ∷ [])) L ≡ add f w (addAll C L)
+pub all-snoc : (C L : List Line) (f : List ℕ) (w : ℤ) → addAll (C ++ (line f w ∷ [])) L ≡ add f w (addAll C L)
 unfolding addAll
 all-snoc [] L f w = refl
 all-snoc (line g u ∷ C) L f w = all-snoc C (add g u L) f w
 
-small-snoc : (k : ℕ) (C : List Line) (f : List ℕ) (w : ℤ) → Small k C → mag w < 2 ^ k → Small k (C ++ (line f w ∷ []))
+pub small-snoc : (k : ℕ) (C : List Line) (f : List ℕ) (w : ℤ) → Small k C → mag w < 2 ^ k → Small k (C ++ (line f w ∷ []))
 small-snoc k [] f w s h = (h, tt)
 small-snoc k (line g u ∷ C) f w s h = (s .0, small-snoc k C f w (s .1) h)
 
@@ -191,7 +190,7 @@ add-nothing : (w : ℤ) (L : List Line) → add [] w L ≡ L
 unfolding add
 add-nothing w L = refl
 
-add-short : (f : List ℕ) (w : ℤ) (L : List Line) → Ordered L → length (add f w L) ≤ suc (length L)
+pub add-short : (f : List ℕ) (w : ℤ) (L : List Line) → Ordered L → length (add f w L) ≤ suc (length L)
 add-short [] w L r = rw (add-nothing w L) (omega arith)
 add-short (t ∷ f) w L r = go (isZero (weight L (t ∷ f) +ℤ w)) (grown (t ∷ f) w L tt r)
   where
@@ -199,7 +198,7 @@ add-short (t ∷ f) w L r = go (isZero (weight L (t ∷ f) +ℤ w)) (grown (t �
     go true h = omega arith
     go false h = omega arith
 
-all-short : (C L : List Line) → Ordered L → length (addAll C L) ≤ length L + length C
+pub all-short : (C L : List Line) → Ordered L → length (addAll C L) ≤ length L + length C
 unfolding addAll
 all-short [] L r = omega arith
 all-short (line f w ∷ C) L r = omega (arith, all-short C (add f w L) (add-ordered f w L r), add-short f w L r)
@@ -241,10 +240,10 @@ module _ (C : List Line) (n : ℕ) (m : Memory) (g : Gathered C n m) where
           small = small-snoc 42 C f w (g .small) k;
         }
 
--- ---- the weights before and after, one by one: W of the lines of N, G of one of them
-module _ (W : List Line → List ℤ) (G : List ℕ → ℤ → ℤ) (nil : W [] ≡ []) (more : (f : List ℕ) (w : ℤ) (N : List Line) → W (line f w ∷ N) ≡ G f w ∷ W N) (N : List Line)
-    (i : ℕ) (l : List ℤ) (inv : take i l ++ W (drop i N) ≡ W N) where
-  pub weigh-more : (f : List ℕ) (w x : ℤ) → i < length N → i < length l → getD N i none ≡ line f w → x ≡ G f w → take (i + 1) (set l i x) ++ W (drop (i + 1) N) ≡ W N
+-- ---- the places, and the weights before and after, one by one: W of the lines of N, G of one of them
+module _ {A : Type 0} (W : List Line → List A) (G : List ℕ → ℤ → A) (nil : W [] ≡ []) (more : (f : List ℕ) (w : ℤ) (N : List Line) → W (line f w ∷ N) ≡ G f w ∷ W N) (N : List Line)
+    (i : ℕ) (l : List A) (inv : take i l ++ W (drop i N) ≡ W N) where
+  pub weigh-more : (f : List ℕ) (w : ℤ) (x : A) → i < length N → i < length l → getD N i none ≡ line f w → x ≡ G f w → take (i + 1) (set l i x) ++ W (drop (i + 1) N) ≡ W N
   weigh-more f w x h k e d =
       rw (add-one, take-suc-set l i x k, append-snoc (take i l) x (W (drop (suc i) N)), d, ← more f w (drop (suc i) N), ← e, ← drop-cons N i none h) inv
 
@@ -259,16 +258,85 @@ module _ (a b a′ b′ : ℤ) (x : a ≡ a′) (y : b ≡ b′) (h : mag a′ �
   pub sum-is : toZ w64 (ofZ w64 (a +ℤ b)) ≡ a′ +ℤ b′
   sum-is = rw (x, y) (read-back (a′ +ℤ b′) (omega (arith, mag-add a′ b′)))
 
+-- ---- the places of the lines that stay, for the weights ss afterwards: those before i are shifted, g lines are gone, and the others are still zero
+pub record Shifting (ss : List ℤ) (ps : List ℕ) (g i : ℕ) (l : List ℕ) : Type 0 where
+  pub as-long : length l ≡ length ps
+  pub so-far : take i l ++ shifted g (drop i ss) (drop i ps) ≡ shifted 0 ss ps
+  pub zero-left : (j : ℕ) → i ≤ j → getD l j 0 ≡ 0
+
+all-zero : (n j : ℕ) → _≡_ {A = ℕ} (getD (replicate n 0) j 0) 0
+all-zero zero j = refl
+all-zero (suc n) zero = refl
+all-zero (suc n) (suc j) = all-zero n j
+
+pub shifting-none : (ss : List ℤ) (ps : List ℕ) → length ps ≡ 4 → Shifting ss ps 0 0 (replicate 4 0)
+shifting-none ss ps e = record { as-long = sym e; so-far = refl; zero-left = λ j h. all-zero 4 j }
+
+module _ {ss : List ℤ} {ps : List ℕ} {g i : ℕ} {l : List ℕ} (s : Shifting ss ps g i l) where
+  -- a place that stays zero
+  pub shifting-stays : getD ps i 0 < g → l ≡ set l i (getD ps i 0 - g)
+  shifting-stays h = let z : getD l i 0 ≡ getD ps i 0 - g = omega (arith, s .zero-left i (omega arith)) in sym (set-getD l i 0) ∙ ap (set l i) z
+
+  pub shifting-more : (g′ : ℕ) (l′ : List ℕ) → i < length ss → i < length ps → l′ ≡ set l i (getD ps i 0 - g)
+      → g′ ≡ cond (isZero (getD ss i (pos 0))) (suc g) g → Shifting ss ps g′ (i + 1) l′
+  unfolding shifted
+  shifting-more g′ l′ hs hp e d =
+      let x : ℕ = getD ps i 0 - g in
+      let n : shifted g (drop i ss) (drop i ps) ≡ x ∷ shifted g′ (drop (i + 1) ss) (drop (i + 1) ps) = rw (add-one, d, drop-cons ss i (pos 0) hs, drop-cons ps i 0 hp) in
+      record {
+        as-long = ap length e ∙ length-set l i x ∙ s .as-long;
+        so-far = ap (λ (k : List ℕ). take (i + 1) k ++ shifted g′ (drop (i + 1) ss) (drop (i + 1) ps)) e
+            ∙ rw (add-one, take-suc-set l i x (omega (arith, s .as-long)), append-snoc (take i l) x (shifted g′ (drop (suc i) ss) (drop (suc i) ps)))
+            (ap (λ (k : List ℕ). take i l ++ k) (sym (rw add-one at n)) ∙ s .so-far);
+        zero-left = λ j h. ap (λ (k : List ℕ). getD k j 0) e ∙ getD-set-other l i j x 0 (λ q. omega arith) ∙ s .zero-left j (omega arith);
+      }
+
+  pub shifting-all : i ≡ length ss → take (length ss) l ≡ shifted 0 ss ps
+  unfolding shifted
+  shifting-all e =
+      let h : length ss ≤ i = omega arith in
+      ap (λ (k : ℕ). take k l) (sym e) ∙ sym (append-nil (take i l)) ∙ rw (drop-of-length-le ss h) at (s .so-far)
+
+-- ---- the places that are given for the chosen lines, and how they move while lines are folded in
+placed-at : (b : Bool) (f : List ℕ) (w : ℤ) (L : List Line) (i : ℕ) (ss : List ℤ) (N : List Line) (ps : List ℕ) (us : List ℤ)
+    → i < length ss → i < length N → i < length ps → i < length us → Placed b ss N ps us L
+    → getD N i none ≡ line f w → Bool·beq (isZero (getD ss i (pos 0))) b ≡ true → (getD ps i 0 ≡ placeOf f L) × (getD us i (pos 0) ≡ weight L f)
+placed-at b f w L i [] N ps us hs hn hp hu q e y = absurd (not-suc-le-zero hs)
+placed-at b f w L i (s ∷ ss) [] ps us hs hn hp hu q e y = absurd (not-suc-le-zero hn)
+placed-at b f w L i (s ∷ ss) (l ∷ N) [] us hs hn hp hu q e y = absurd (not-suc-le-zero hp)
+placed-at b f w L i (s ∷ ss) (l ∷ N) (p ∷ ps) [] hs hn hp hu q e y = absurd (not-suc-le-zero hu)
+placed-at b f w L zero (s ∷ ss) (line g v ∷ N) (p ∷ ps) (u ∷ us) hs hn hp hu q e y =
+    let d : g ≡ f = cc in subst (λ (x : List ℕ). (p ≡ placeOf x L) × (u ≡ weight L x)) d (q .0 y)
+placed-at b f w L (suc i) (s ∷ ss) (line g v ∷ N) (p ∷ ps) (u ∷ us) hs hn hp hu q e y =
+    placed-at b f w L i ss N ps us (le-of-suc-le-suc hs) (le-of-suc-le-suc hn) (le-of-suc-le-suc hp) (le-of-suc-le-suc hu) (q .1) e y
+
+-- a polynomial behind all lines that came or went from L to M
+abbrev Moves : List Line → List Line → List ℕ → Type 0
+Moves L M f = (placeOf f M + length L ≡ placeOf f L + length M) × (weight M f ≡ weight L f)
+
+moves-none : (L N : List Line) → Every (Moves L L) N
+moves-none L [] = tt
+moves-none L (line f w ∷ N) = ((refl, refl), moves-none L N)
+
+moves-more : (L M : List Line) (g : List ℕ) (w : ℤ) (N : List Line) → Ordered M → T (some g) → Behind g N → Ordered N → Every (Moves L M) N → Every (Moves L (add g w M)) N
+moves-more L M g w [] r n b s e = tt
+moves-more L M g w (line f u ∷ N) r n b s e = (
+  (omega (arith, e .0 .0, place-behind f g w M r n (b .0)), weight-other f g w M (s .0) (not-same g f (b .0)) ∙ e .0 .1),
+  moves-more L M g w N r n (b .1) (s .1 .1 .1) (e .1),
+)
+
 -- ---- the chosen lines of N, folded into a table of 128: those from i on are left
 pub record Folding (b : Bool) (ss : List ℤ) (N : List Line) (n : ℕ) (L : List Line) (i : ℕ) (m : Memory) : Type 0 where
   pub is-formed : T (formed 128 m)
   pub variables-are : m .variables ≡ n
   pub has-room : Room (chosen b (drop i ss) (drop i N)) (linesOf m)
   pub rest-is : addAll (chosen b (drop i ss) (drop i N)) (linesOf m) ≡ addAll (chosen b ss N) L
+  pub in-order : Ordered (drop i N)
+  pub moved : Every (Moves L (linesOf m)) (drop i N)
 
-pub folding-none : (b : Bool) (ss : List ℤ) (N : List Line) (m : Memory) → T (formed 128 m) → Room (chosen b ss N) (linesOf m)
+pub folding-none : (b : Bool) (ss : List ℤ) (N : List Line) (m : Memory) → T (formed 128 m) → Room (chosen b ss N) (linesOf m) → Ordered N
     → Folding b ss N (m .variables) (linesOf m) 0 m
-folding-none b ss N m t r = record { is-formed = t; variables-are = refl; has-room = r; rest-is = refl }
+folding-none b ss N m t r s = record { is-formed = t; variables-are = refl; has-room = r; rest-is = refl; in-order = s; moved = moves-none (linesOf m) N }
 
 pub folding-all : {b : Bool} {ss : List ℤ} {N : List Line} {n : ℕ} {L : List Line} {i : ℕ} (m : Memory) → length ss ≤ i → Folding b ss N n L i m
     → m ≡ imageOf 128 n (addAll (chosen b ss N) L)
@@ -277,15 +345,32 @@ folding-all {b = b} {ss = ss} {N = N} {L = L} m h g =
     let e : linesOf m ≡ addAll (chosen b ss N) L = rw (drop-of-length-le ss h) at (g .rest-is) in
     formed-image 128 m (g .is-formed) ∙ rw (g .variables-are, e)
 
-module _ {b : Bool} {ss : List ℤ} {N : List Line} {n : ℕ} {L : List Line} {i : ℕ} {m : Memory} (g : Folding b ss N n L i m) (hs : i < length ss) (hn : i < length N) where
+module _ {b : Bool} {ss : List ℤ} {N : List Line} {n : ℕ} {L : List Line} {i : ℕ} {m : Memory} (g : Folding b ss N n L i m) (hs : i < length ss) (hn : i < length N)
+    (f : List ℕ) (w : ℤ) (e : getD N i none ≡ line f w) where
+  rest : drop i N ≡ line f w ∷ drop (i + 1) N
+  rest = rw (add-one, drop-cons N i none hn, e)
+
+  rest-ordered : Ordered (line f w ∷ drop (i + 1) N)
+  rest-ordered = subst Ordered rest (g .in-order)
+
+  rest-moved : Every (Moves L (linesOf m)) (line f w ∷ drop (i + 1) N)
+  rest-moved = subst (Every (Moves L (linesOf m))) rest (g .moved)
+
   pub folding-skip : Bool·beq (isZero (getD ss i (pos 0))) b ≡ false → Folding b ss N n L (i + 1) m
   unfolding chosen
-  folding-skip e =
+  folding-skip y =
       let x : chosen b (drop i ss) (drop i N) ≡ chosen b (drop (i + 1) ss) (drop (i + 1) N) =
-      rw (add-one, drop-cons ss i (pos 0) hs, drop-cons N i none hn, e) in
-      record { is-formed = g .is-formed; variables-are = g .variables-are; has-room = rw (← x) (g .has-room); rest-is = rw (← x) (g .rest-is) }
+      rw (add-one, drop-cons ss i (pos 0) hs, drop-cons N i none hn, y) in
+      record {
+        is-formed = g .is-formed;
+        variables-are = g .variables-are;
+        has-room = rw (← x) (g .has-room);
+        rest-is = rw (← x) (g .rest-is);
+        in-order = rest-ordered .1 .1 .1;
+        moved = rest-moved .1;
+      }
 
-  module _ (f : List ℕ) (w : ℤ) (e : getD N i none ≡ line f w) (y : Bool·beq (isZero (getD ss i (pos 0))) b ≡ true) where
+  module _ (y : Bool·beq (isZero (getD ss i (pos 0))) b ≡ true) where
     chosen-next : chosen b (drop i ss) (drop i N) ≡ line f w ∷ chosen b (drop (i + 1) ss) (drop (i + 1) N)
     unfolding chosen
     chosen-next = rw (add-one, drop-cons ss i (pos 0) hs, drop-cons N i none hn, y, e)
@@ -299,6 +384,17 @@ module _ {b : Bool} {ss : List ℤ} {N : List Line} {n : ℕ} {L : List Line} {i
     pub folding-fits : mag (weight (linesOf m) f +ℤ w) < 2 ^ 63
     folding-fits = next-room .1 .0
 
+    pub folding-some : T (some f)
+    folding-some = rest-ordered .0
+
+    -- the line's place and weight, by those that are given
+    module _ (ps : List ℕ) (us : List ℤ) (hp : i < length ps) (hu : i < length us) (q : Placed b ss N ps us L) where
+      pub folding-place : getD ps i 0 + length (linesOf m) ≡ placeOf f (linesOf m) + length L
+      folding-place = omega (arith, placed-at b f w L i ss N ps us hs hn hp hu q e y .0, rest-moved .0 .0)
+
+      pub folding-weight : getD us i (pos 0) ≡ weight (linesOf m) f
+      folding-weight = placed-at b f w L i ss N ps us hs hn hp hu q e y .1 ∙ sym (rest-moved .0 .1)
+
     pub folding-more : (m′ : Memory) → T (isPolynomial n f) → m′ ≡ imageOf 128 (m .variables) (add f w (linesOf m)) → Folding b ss N n L (i + 1) m′
     unfolding addAll
     folding-more m′ q x =
@@ -309,6 +405,9 @@ module _ {b : Bool} {ss : List ℤ} {N : List Line} {n : ℕ} {L : List Line} {i
           variables-are = added-variables 128 m m′ f w (g .is-formed) p folding-room x ∙ g .variables-are;
           has-room = rw z (next-room .1 .1);
           rest-is = rw z (rw chosen-next at (g .rest-is));
+          in-order = rest-ordered .1 .1 .1;
+          moved = subst (λ (M : List Line). Every (Moves L M) (drop (i + 1) N)) (sym z)
+              (moves-more L (linesOf m) f w (drop (i + 1) N) (table-ordered 128 m (g .is-formed)) (rest-ordered .0) (rest-ordered .1 .1 .0) (rest-ordered .1 .1 .1) (rest-moved .1));
         }
 
 -- ---- the verdict of the two tests
@@ -321,8 +420,8 @@ judged-large a b q h e = rw (le-leb a b h, e)
 pub judged-done : (a b : ℕ) (q : Bool) → a ≤ b → q ≡ true → Done ≡ verdictOf (leb a b) q
 judged-done a b q h e = rw (le-leb a b h, e)
 
--- ---- the places that are read of a run of weights
-pub prefix-fits : (k : ℕ) (l m : List ℤ) → take k l ≡ m → length m ≡ k → k ≤ length l
+-- ---- the part of a run that is read
+pub prefix-fits : {A : Type 0} (k : ℕ) (l m : List A) → take k l ≡ m → length m ≡ k → k ≤ length l
 prefix-fits k l m e d = omega (arith, ap length e, length-take k l)
 
 -- ---- the outcome of the two tests
@@ -372,6 +471,36 @@ module _ (old new : Memory) where
     pub first-room : Room (chosen true A N) L
     first-room = rw (p .weights-are) (room-first N L (table-ordered 4 new (p .new-formed)) (table-ordered 128 old (p .old-formed)) old-short)
 
+    -- the places ps and the weights B before, for the first pass
+    module _ (ps : List ℕ) (x : take (new .lines) ps ≡ placesIn N L) (B : List ℤ) (y : B ≡ weightsBefore N L) where
+      places-are : take (length A) ps ≡ placesIn N L
+      places-are = ap (λ (k : ℕ). take k ps) passes-long ∙ x
+
+      pub places-long : length (take (length A) ps) ≡ new .lines
+      places-long = ap length places-are ∙ length-places N L ∙ table-length 4 new (p .new-formed)
+
+      pub before-long : length B ≡ new .lines
+      before-long = ap length y ∙ length-before N L ∙ table-length 4 new (p .new-formed)
+
+      pub places-fit : length A ≤ length ps
+      places-fit = prefix-fits (length A) ps (take (length A) ps) refl (places-long ∙ sym passes-long)
+
+      pub first-placed : Placed true A N (take (length A) ps) B L
+      first-placed = rw (places-are, y) (placed-first true A N L)
+
+      -- and the shifted places qs, for the second
+      module _ (qs : List ℕ) (z : take (length A) qs ≡ shifted 0 A ps) where
+        pub shifted-long : length (take (length A) qs) ≡ new .lines
+        shifted-long = ap length z ∙ length-shifted 0 A ps places-fit ∙ passes-long
+
+        pub shifted-fit : length A ≤ length qs
+        shifted-fit = prefix-fits (length A) qs (take (length A) qs) refl (shifted-long ∙ sym passes-long)
+
+        rest-placed : Placed false A N (take (length A) qs) B (addAll (chosen true A N) L)
+        rest-placed =
+            let a : take (length A) qs ≡ shifted 0 A (placesIn N L) = z ∙ shifted-take 0 A ps ∙ ap (shifted 0 A) places-are in
+            rw (a, y, p .weights-are) (placed-rest N L (table-ordered 4 new (p .new-formed)) (table-ordered 128 old (p .old-formed)))
+
     -- m is what the first pass leaves
     module _ (m : Memory) (e : m ≡ imageOf 128 (old .variables) (addAll (chosen true A N) L)) where
       first-fit : T (linesFit (old .variables) (addAll (chosen true A N) L))
@@ -394,6 +523,10 @@ module _ (old new : Memory) where
           let r = room-last N L (table-ordered 4 new (p .new-formed)) (table-ordered 128 old (p .old-formed)) (subst (λ (l : List ℤ). T (allInRange l)) (p .weights-are) (p .in-range)) (p .few) in
           subst (λ (l : List Line). Room (chosen false A N) l) (sym first-lines)
           (subst (λ (l : List ℤ). Room (chosen false l N) (addAll (chosen true l N) L)) (sym (p .weights-are)) r)
+
+      pub last-placed : (ps : List ℕ) → take (new .lines) ps ≡ placesIn N L → (B : List ℤ) → B ≡ weightsBefore N L
+          → (qs : List ℕ) → take (length A) qs ≡ shifted 0 A ps → Placed false A N (take (length A) qs) B (linesOf m)
+      last-placed ps x B y qs z = subst (λ (l : List Line). Placed false A N (take (length A) qs) B l) (sym first-lines) (rest-placed ps x B y qs z)
 
       pub last-all : (k : Memory) → k ≡ imageOf 128 (m .variables) (addAll (chosen false A N) (linesOf m)) → k ≡ imageOf 128 (old .variables) (addAll N L)
       last-all k x =

@@ -1,18 +1,15 @@
 -- The search in a table that is read through an index: line i of the table is the row of entry i, the lines ahead of a polynomial's key stand before it,
 -- and where the halving of Tables begins.
 use mathlib.Core.Path.{_≡_, refl, sym, ap, _∙_}
-use mathlib.Core.Bool.{Bool, true, false, cond, true≢false}
+use mathlib.Core.Bool.{false, true≢false}
 use mathlib.Core.List.{List, [], _∷_}
 use Prim.Native.Nat.{ℕ, zero, suc, _+_, _-_, _*_, _^_, _≤_, _<_}
-use native.Mathlib.Nat.{le-of-suc-le-suc, not-suc-le-zero}
 use native.Mathlib.Decide.{decLt}
 use native.Mathlib.Omega.{arith}
-use lib.Dec.{T, ltb}
+use lib.Dec.{T}
 use lib.IntN.{ℤ, pos}
 use lib.ListN.{length, getD, take, drop}
 use lib.Seq.{getD-take, getD-drop, length-take-le}
-use borrow.Author.Tests.{ltb-true}
-use Rattle.run.specs.Boolean.{cond-ind}
 use Rattle.polynomial.specs.Polynomial.{orderOf}
 use Rattle.polynomial.specs.declared.Ordering.the-variants.{Same, Later}
 use Rattle.configuration.specs.Configuration.{Line, line, some, Ordered, placeOf, isHeld}
@@ -22,8 +19,9 @@ use Rattle.configuration.specs.MemoryLaws.{Formed, formed-parts, length-
 use Rattle.configuration.specs.Index.{rowOf, keyIn, arranged, indexedOf, linesBy, firstKey, Kept, ahead, Falling}
 use Rattle.configuration.specs.IndexLaws.{row-is, key-at, key-earlier, keys-fall}
 use Rattle.configuration.specs.declared.Head.{Head}
-use Rattle.configuration.proofs.Forms.{rowAt, laid-short}
-use Rattle.configuration.proofs.Tables.{Between, everywhere, upper, found, weight-at, count-at}
+use Rattle.configuration.proofs.Forms.{rowAt}
+use Rattle.configuration.proofs.Indexes.{ahead-le, ahead-higher}
+use Rattle.configuration.proofs.Tables.{Between, everywhere, upper, found, weight-at, count-at, room, in-use, count-short}
 
 -- ---- the polynomial 0
 -- it is not held, and its place is before every line
@@ -46,24 +44,6 @@ pub first-below : (b n k : ℕ) (l : List ℕ) → 0 < b → ((i : ℕ) → getD
 first-below b zero k l p h = p
 first-below b (suc n) k l p h = rw (getD-take (suc n) (drop k l) 0 0 (omega arith), getD-drop k l 0 0) (h (k + 0))
 
--- ---- entries of an index
--- those ahead of a key are among the entries, and have higher keys
-ahead-le : (k : ℕ) (is : List ℕ) → ahead k is ≤ length is
-unfolding ahead
-ahead-le k [] = omega arith
-ahead-le k (e ∷ is) = cond-ind (ltb k (keyIn e)) (λ (n : ℕ). n ≤ suc (length is)) (λ h. omega (arith, ahead-le k is)) (λ h. omega arith)
-
-ahead-above : (k i : ℕ) (is : List ℕ) → i < ahead k is → k < keyIn (getD is i 0)
-unfolding ahead
-ahead-above k i [] l = absurd (not-suc-le-zero l)
-ahead-above k i (e ∷ is) l = go i (ltb k (keyIn e)) refl (λ j m. ahead-above k j is m) l
-  where
-    go : (i : ℕ) (b : Bool) → ltb k (keyIn e) ≡ b → ((j : ℕ) → j < ahead k is → k < keyIn (getD is j 0)) → i < cond b (suc (ahead k is)) 0
-        → k < keyIn (getD (e ∷ is) i 0)
-    go i false q r l = absurd (not-suc-le-zero l)
-    go zero true q r l = ltb-true k (keyIn e) q
-    go (suc i) true q r l = r i (le-of-suc-le-suc l)
-
 -- ---- a table that is read through an index
 module _ {c : ℕ} {h : Head} {is ts : List ℕ} {ws : List ℤ} {cs : List ℕ} (k : Kept c h is ts ws cs) (t : T (formed c (indexedOf h is ts ws cs))) where
   parts : Formed c (indexedOf h is ts ws cs)
@@ -72,30 +52,21 @@ module _ {c : ℕ} {h : Head} {is ts : List ℕ} {ws : List ℤ} {cs : List ℕ}
   pub kept-ordered : Ordered (linesBy h is ts ws cs)
   kept-ordered = fit-ordered (h .variables) (linesBy h is ts ws cs) (parts .fit)
 
-  pub lines-indexed : h .lines ≤ length is
-  lines-indexed = omega (arith, parts .room, k .entries)
-
   pub falling : Falling (take (h .lines) is)
   falling = rw (length-lines (h .lines) (arranged 64 is ts) (arranged 1 is ws) (arranged 1 is cs)) at
       (keys-fall (h .variables) is (linesBy h is ts ws cs) (k .variables-bound) (parts .fit) kept-ordered (k .keyed))
 
   -- line i
   module _ (i : ℕ) (l : i < h .lines) where
-    pub in-capacity : i < c
-    in-capacity = omega (arith, parts .room)
-
     abbrev row : ℕ
     row = rowOf (getD is i 0)
 
     abbrev terms-here : List ℕ
     terms-here = take (getD cs row 0) (drop (64 * row) ts)
 
-    pub count-short : getD cs row 0 ≤ 64
-    count-short = rw (count-at k i in-capacity) at (laid-short (h .lines) i (arranged 64 is ts) (arranged 1 is ws) (arranged 1 is cs) (parts .laid) l)
-
     pub line-is : rowAt (arranged 64 is ts) (arranged 1 is cs) i ≡ terms-here
-    line-is = rw (count-at k i in-capacity)
-        (row-is c 64 is ts (k .once) (omega (arith, k .terms-length)) i (getD cs row 0) (omega (arith, lines-indexed)) count-short)
+    line-is = rw (count-at k i (in-use k t i l))
+        (row-is c 64 is ts (k .once) (omega (arith, k .terms-length)) i (getD cs row 0) (omega (arith, room k t)) (count-short k t i row l refl))
 
     pub line-some : T (some terms-here)
     line-some =
@@ -106,7 +77,7 @@ module _ {c : ℕ} {h : Head} {is ts : List ℕ} {ws : List ℤ} {cs : List ℕ}
     pub line-keyed : keyIn (getD is i 0) ≡ firstKey terms-here
     line-keyed = key-at is (linesBy h is ts ws cs) (k .keyed) i terms-here (getD ws row (pos 0)) (line [] (pos 0))
         (omega (arith, length-lines (h .lines) (arranged 64 is ts) (arranged 1 is ws) (arranged 1 is cs)))
-        (line-at (h .lines) i (arranged 64 is ts) (arranged 1 is ws) (arranged 1 is cs) (line [] (pos 0)) l ∙ rw (line-is, weight-at k i in-capacity))
+        (line-at (h .lines) i (arranged 64 is ts) (arranged 1 is ws) (arranged 1 is cs) (line [] (pos 0)) l ∙ rw (line-is, weight-at k i (in-use k t i l)))
 
   -- the place of f is not among the lines that are ahead of its key
   module _ (f : List ℕ) (s : T (some f)) (bf : getD f 0 0 < 2 ^ 32) (bt : (j : ℕ) → getD ts j 0 < 2 ^ 32) where
@@ -114,14 +85,14 @@ module _ {c : ℕ} {h : Head} {is ts : List ℕ} {ws : List ℤ} {cs : List ℕ}
     front = ahead (firstKey f) (take (h .lines) is)
 
     front-le : front ≤ h .lines
-    front-le = omega (arith, ahead-le (firstKey f) (take (h .lines) is), length-take-le (h .lines) is lines-indexed)
+    front-le = omega (arith, ahead-le (firstKey f) (take (h .lines) is), length-take-le (h .lines) is (room k t))
 
     front-later : (i : ℕ) → i < front → orderOf f (rowAt (arranged 64 is ts) (arranged 1 is cs) i) ≡ Later
     front-later i l =
         let m : i < h .lines = omega (arith, front-le) in
         let r : ℕ = rowOf (getD is i 0) in
         let g : List ℕ = take (getD cs r 0) (drop (64 * r) ts) in
-        let q : firstKey f < keyIn (getD is i 0) = rw (getD-take (h .lines) is i 0 m) at (ahead-above (firstKey f) i (take (h .lines) is) l) in
+        let q : firstKey f < keyIn (getD is i 0) = rw (getD-take (h .lines) is i 0 m) at (ahead-higher (firstKey f) i (take (h .lines) is) l) in
         rw (line-is i m) (order-earlier g f (key-earlier g f (line-some i m) s (first-below (2 ^ 32) (getD cs r 0) (64 * r) ts (omega arith) bt) bf (rw (← line-keyed i m) q)))
 
     pub starts : Between f (h .lines) (arranged 64 is ts) (arranged 1 is ws) (arranged 1 is cs) front (h .lines)

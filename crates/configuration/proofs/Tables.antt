@@ -2,16 +2,16 @@
 -- and to one row of the areas.
 use mathlib.Core.Path.{_≡_, refl, sym, ap, _∙_}
 use mathlib.Core.Logic.{_⊎_, inl, inr}
-use mathlib.Core.Bool.{Bool, true, false, _&&_, true≢false}
+use mathlib.Core.Bool.{Bool, true, false, not, _&&_, true≢false}
 use mathlib.Core.List.{List, [], _∷_, _++_, append-assoc}
 use Prim.Native.Nat.{ℕ, zero, suc, _+_, _-_, _*_, _≤_, _<_}
 use native.Mathlib.Nat.{one-mul, le-of-suc-le-suc, not-suc-le-zero}
 use native.Mathlib.Omega.{arith}
-use lib.Dec.{T, leb, leb→le}
-use lib.IntN.{ℤ, pos, _+ℤ_}
+use lib.Dec.{T, T-not, leb, leb→le}
+use lib.IntN.{ℤ, pos, _+ℤ_, +ℤ-idl}
 use lib.ListN.{length, getD, set, take, drop, replicate, length-append, length-drop, take-append-drop, length-replicate, length-set, replicate-append-replicate}
 use lib.Seq.{slice, length-slice, getD-drop, length-take-le, take-at, drop-at, drop-drop, drop-append-le}
-use Rattle.run.specs.Boolean.{left, right}
+use Rattle.run.specs.Boolean.{is-false, left, right}
 use Rattle.run.specs.Run.{sorted}
 use Rattle.term.specs.Term.{before, keyOf}
 use Rattle.polynomial.specs.Polynomial.{orderOf}
@@ -19,8 +19,8 @@ use Rattle.polynomial.specs.OrderingLaws.{order-self, order-same}
 use Rattle.polynomial.specs.declared.Ordering.{Ordering}
 use Rattle.polynomial.specs.declared.Ordering.the-variants.{Earlier, Same, Later}
 use Rattle.configuration.specs.Weight.{isZero}
-use Rattle.configuration.specs.Configuration.{Line, line, some, byOrder, weight, keep, add, Ordered, placeOf, isHeld, below, isPolynomial}
-use Rattle.configuration.specs.ConfigurationLaws.{fit-ordered}
+use Rattle.configuration.specs.Configuration.{Line, line, some, byOrder, total, weight, keep, add, Ordered, placeOf, isHeld, below, isPolynomial}
+use Rattle.configuration.specs.ConfigurationLaws.{fit-ordered, behind-trans, weight-behind, weight-head}
 use Rattle.configuration.specs.PlaceLaws.{Fresh, place-le, fold-held, fold-new, weight-held, weight-new, earlier-left, earlier-right, same-here}
 use Rattle.configuration.specs.Memory.{Memory, rows, memoryOf, readLines, linesOf, imageOf, laidOut, zeros, formed}
 use Rattle.configuration.proofs.Forms.{laid-short, rowAt}
@@ -94,6 +94,18 @@ module _ (f : List ℕ) (d : Line) where
               × ((getD L (placeOf f L) d ≡ line g u) × (orderOf f g ≡ Earlier)))))
           more (g, (u, inl q)) = (g, (u, inl (ap suc q)))
           more (g, (u, inr q)) = (g, (u, inr (next (placeOf f L) (length L) (q .0), q .1)))
+
+-- it is held just if its weight is not 0: no line of an ordered configuration has the weight 0
+held-weight : (f : List ℕ) (L : List Line) → Ordered L → isHeld f L ≡ not (isZero (weight L f))
+unfolding isHeld total
+held-weight f [] r = refl
+held-weight f (line g u ∷ L) r = go (orderOf f g) refl (held-weight f L (r .1 .1 .1))
+  where
+    go : (c : Ordering) → orderOf f g ≡ c → isHeld f L ≡ not (isZero (weight L f))
+        → byOrder c false true (isHeld f L) ≡ not (isZero (weight (line g u ∷ L) f))
+    go Earlier e k = rw (weight-behind f (line g u ∷ L) (e, behind-trans f g L e (r .1 .1 .0)))
+    go Same e k = rw (order-same f g e, weight-head g u L (r .1 .1 .0), is-false (isZero u) (T-not (isZero u) (r .1 .0)))
+    go Later e k = rw (e, +ℤ-idl (weight L f)) k
 
 -- ---- a search by halving among k lines
 -- the place lies between two bounds, and the polynomial stands before the line at the upper one, if there is one
@@ -502,11 +514,20 @@ module _ {c : ℕ} {h : Head} {is ts : List ℕ} {ws : List ℤ} {cs : List ℕ}
       pub weighed : (indexedOf h is ts (set ws r w) cs ≡ imageOf c (h .variables) (take at K ++ line f w ∷ drop (suc at) K)) × Kept c h is ts (set ws r w) cs
       weighed = (table-weighed, kept-weighed)
 
--- ---- what a search for f among the lines of a memory found: its place, and whether it is held
+-- ---- what is known of f among the lines of a memory: its place, and whether it is held
 pub record Placed (c : ℕ) (h : Head) (ts : List ℕ) (ws : List ℤ) (cs : List ℕ) (f : List ℕ) (at : ℕ) (b : Bool) : Type 0 where
   pub well : T (formed c (memoryOf h ts ws cs))
   pub place : at ≡ placeOf f (linesOf (memoryOf h ts ws cs))
   pub is-held : b ≡ isHeld f (linesOf (memoryOf h ts ws cs))
+
+-- its place and its weight tell both
+pub placed-by : {c : ℕ} {h : Head} {ts : List ℕ} {ws : List ℤ} {cs f : List ℕ} {at : ℕ} {w : ℤ} → T (formed c (memoryOf h ts ws cs))
+    → at ≡ placeOf f (linesOf (memoryOf h ts ws cs)) → w ≡ weight (linesOf (memoryOf h ts ws cs)) f → Placed c h ts ws cs f at (not (isZero w))
+placed-by {c} {h} {ts} {ws} {cs} {f} t p q = record {
+  well = t;
+  place = p;
+  is-held = rw q (sym (held-weight f (linesOf (memoryOf h ts ws cs)) (ordered c h ts ws cs t)));
+}
 
 module _ {c : ℕ} {h : Head} {ts : List ℕ} {ws : List ℤ} {cs f : List ℕ} {at : ℕ} {b : Bool} (x : Placed c h ts ws cs f at b) where
   abbrev M : List Line
@@ -538,13 +559,13 @@ module _ {c : ℕ} {h : Head} {ts : List ℕ} {ws : List ℤ} {cs f : List ℕ} 
     weight-here = weight-held f M (getD ws at (pos 0)) none (ordered c h ts ws cs (x .well)) among-lines (rw (← x .place) line-here)
 
     module _ (w : ℤ) (n : T (some f)) where
-      add-held : add f w M ≡ take at M ++ keep f (getD ws at (pos 0) +ℤ w) (drop (suc at) M)
-      add-held = rw (← x .place) at (fold-held f w M (getD ws at (pos 0)) none n among-lines (rw (← x .place) line-here))
+      add-held : add f w M ≡ take at M ++ keep f (weight M f +ℤ w) (drop (suc at) M)
+      add-held = rw weight-here (rw (← x .place) at (fold-held f w M (getD ws at (pos 0)) none n among-lines (rw (← x .place) line-here)))
 
-      pub add-gone : isZero (getD ws at (pos 0) +ℤ w) ≡ true → add f w M ≡ take at M ++ drop (suc at) M
+      pub add-gone : isZero (weight M f +ℤ w) ≡ true → add f w M ≡ take at M ++ drop (suc at) M
       add-gone z = add-held ∙ rw z
 
-      pub add-changed : isZero (getD ws at (pos 0) +ℤ w) ≡ false → add f w M ≡ take at M ++ line f (getD ws at (pos 0) +ℤ w) ∷ drop (suc at) M
+      pub add-changed : isZero (weight M f +ℤ w) ≡ false → add f w M ≡ take at M ++ line f (weight M f +ℤ w) ∷ drop (suc at) M
       add-changed z = add-held ∙ rw z
 
   -- ---- f is not held

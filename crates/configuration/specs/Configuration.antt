@@ -2,7 +2,7 @@
 -- means the line is not held." It is the list of the lines that are held, in the order of their polynomials.
 use mathlib.Core.Path.{_≡_}
 use mathlib.Core.Bool.{Bool, true, false, cond, not, _&&_}
-use mathlib.Core.List.{List, [], _∷_, map}
+use mathlib.Core.List.{List, [], _∷_}
 use Prim.Native.Nat.{ℕ, suc, _^_}
 use lib.Dec.{T, leb, ltb}
 use lib.IntN.{ℤ, pos, _+ℤ_, negℤ}

@@ -12,4 +12,5 @@ pub mod Index
 pub mod Settling
 pub mod IndexLaws
 pub mod TurnLaws
+pub mod PlacedLaws
 pub mod WeightLaws

@@ -26,7 +26,7 @@ unfolding placeOf
 place-le f [] = omega arith
 place-le f (line g u ∷ L) = order-ind (orderOf f g) (λ (k : ℕ). k ≤ suc (length L)) (λ h. omega arith) (λ h. omega arith) (λ h. omega (arith, place-le f L))
 
-add-fold : (f : List ℕ) (w : ℤ) (L : List Line) → T (some f) → add f w L ≡ fold f w L
+pub add-fold : (f : List ℕ) (w : ℤ) (L : List Line) → T (some f) → add f w L ≡ fold f w L
 unfolding add
 add-fold [] w L n = absurd n
 add-fold (t ∷ f) w L n = refl

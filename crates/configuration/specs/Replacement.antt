@@ -1,14 +1,15 @@
 -- The replacement of weighted polynomials. Document 01: "Changes to the same polynomial are added up, and limits on lines and weights are judged only
 -- on the standing that results."
+use mathlib.Core.Path.{_≡_}
 use mathlib.Core.Bool.{Bool, true, false, cond, Bool·beq}
 use mathlib.Core.List.{List, [], _∷_}
-use Prim.Native.Nat.{ℕ, suc, _^_, _≤_, _<_}
+use Prim.Native.Nat.{ℕ, suc, _-_, _^_, _≤_, _<_}
 use lib.Dec.{leb}
 use lib.IntN.{ℤ, _+ℤ_}
 use lib.Signed.{mag}
 use lib.ListN.{length}
 use Rattle.configuration.specs.Weight.{isZero}
-use Rattle.configuration.specs.Configuration.{Line, line, weight, add, addAll, weightsFit}
+use Rattle.configuration.specs.Configuration.{Line, line, weight, add, addAll, placeOf, weightsFit}
 use Rattle.configuration.specs.Memory.{Memory, linesOf, imageOf}
 use Rattle.configuration.specs.declared.Verdict.{Verdict}
 use Rattle.configuration.specs.declared.Verdict.the-variants.{Done, TooManyLines, WeightTooLarge}
@@ -69,6 +70,11 @@ unfoldable pub weightsAfter : List Line → List Line → List ℤ
 weightsAfter [] L = []
 weightsAfter (line f w ∷ N) L = (weight L f +ℤ w) ∷ weightsAfter N L
 
+-- where each polynomial of N stands, or would stand, in L
+unfoldable pub placesIn : List Line → List Line → List ℕ
+placesIn [] L = []
+placesIn (line f w ∷ N) L = placeOf f L ∷ placesIn N L
+
 unfoldable pub countHeld : List ℤ → ℕ
 countHeld [] = 0
 countHeld (w ∷ l) = cond (isZero w) (countHeld l) (suc (countHeld l))
@@ -78,6 +84,20 @@ unfoldable pub chosen : Bool → List ℤ → List Line → List Line
 chosen b [] N = []
 chosen b (s ∷ ss) [] = []
 chosen b (s ∷ ss) (l ∷ N) = cond (Bool·beq (isZero s) b) (l ∷ chosen b ss N) (chosen b ss N)
+
+-- places and weights that are those of the chosen lines of N in L
+abbrev pub Placed : Bool → List ℤ → List Line → List ℕ → List ℤ → List Line → Type 0
+Placed b [] N ps us L = Unit {0}
+Placed b (s ∷ ss) [] ps us L = Unit {0}
+Placed b (s ∷ ss) (l ∷ N) [] us L = Unit {0}
+Placed b (s ∷ ss) (l ∷ N) (p ∷ ps) [] L = Unit {0}
+Placed b (s ∷ ss) (line f w ∷ N) (p ∷ ps) (u ∷ us) L = (Bool·beq (isZero s) b ≡ true → (p ≡ placeOf f L) × (u ≡ weight L f)) × Placed b ss N ps us L
+
+-- places from which the lines that vanish, g of them so far, are gone
+unfoldable pub shifted : ℕ → List ℤ → List ℕ → List ℕ
+shifted g [] ps = []
+shifted g (s ∷ ss) [] = []
+shifted g (s ∷ ss) (p ∷ ps) = (p - g) ∷ shifted (cond (isZero s) (suc g) g) ss ps
 
 -- lines can be folded in one by one: a table of 128 has room each time, and each weight can be written
 abbrev pub Room : List Line → List Line → Type 0

@@ -4,12 +4,13 @@
 use mathlib.Core.Path.{_≡_, refl, sym, ap, _∙_}
 use mathlib.Core.Bool.{Bool, true, false, not, cond, Bool·beq, _&&_}
 use mathlib.Core.List.{List, [], _∷_}
-use Prim.Native.Nat.{ℕ, suc, _+_, _*_, _^_, _≤_, _<_}
+use Prim.Native.Nat.{ℕ, suc, _+_, _-_, _*_, _^_, _≤_, _<_}
+use native.Mathlib.Nat.{le-of-suc-le-suc, not-suc-le-zero}
 use native.Mathlib.Omega.{arith}
 use lib.Dec.{T, leb, ltb, leb→le, le→leb}
 use lib.IntN.{ℤ, pos, negsuc, _+ℤ_, +ℤ-idl, +ℤ-idr}
 use lib.Signed.{mag}
-use lib.ListN.{length}
+use lib.ListN.{length, take}
 use Rattle.run.specs.Boolean.{bool-ext, of-true, left, right, cond-ind}
 use Rattle.polynomial.specs.Polynomial.{orderOf}
 use Rattle.polynomial.specs.declared.Ordering.the-variants.{Earlier}
@@ -18,7 +19,7 @@ use Rattle.configuration.specs.Configuration.{Line, line, some, same, to
 use Rattle.configuration.specs.Memory.{Memory, linesOf, imageOf}
 use Rattle.configuration.specs.declared.Verdict.{Verdict}
 use Rattle.configuration.specs.declared.Verdict.the-variants.{Done, TooManyLines, WeightTooLarge}
-use Rattle.configuration.specs.Replacement.{Step, refused, Replacement, verdictNumber, replacementOf, taken, unless, within, Small, after, replaced, weightsBefore, weightsAfter, countHeld, chosen, Room}
+use Rattle.configuration.specs.Replacement.{Step, refused, Replacement, verdictNumber, replacementOf, taken, unless, within, Small, after, replaced, weightsBefore, weightsAfter, placesIn, countHeld, chosen, shifted, Room}
 use Rattle.configuration.specs.Sums.{zero-is, solve, v, _⊞_}
 use Rattle.configuration.specs.ConfigurationLaws.{same-is, weight-all, add-ordered, all-ordered, weight-behind, weight-head, unique, netted}
 use Rattle.configuration.specs.PlaceLaws.{toNat, grown, weight-other, not-same, lost, gained, length-all, outcomesFit, weights-all}
@@ -280,6 +281,24 @@ pub length-before : (N L : List Line) → length (weightsBefore N L) ≡ length 
 unfolding weightsBefore
 length-before [] L = refl
 length-before (line f w ∷ N) L = ap suc (length-before N L)
+
+pub length-places : (N L : List Line) → length (placesIn N L) ≡ length N
+unfolding placesIn
+length-places [] L = refl
+length-places (line f w ∷ N) L = ap suc (length-places N L)
+
+pub length-shifted : (g : ℕ) (ss : List ℤ) (ps : List ℕ) → length ss ≤ length ps → length (shifted g ss ps) ≡ length ss
+unfolding shifted
+length-shifted g [] ps h = refl
+length-shifted g (s ∷ ss) [] h = absurd (not-suc-le-zero h)
+length-shifted g (s ∷ ss) (p ∷ ps) h = ap suc (length-shifted (cond (isZero s) (suc g) g) ss ps (le-of-suc-le-suc h))
+
+-- only as many places are shifted as there are weights
+pub shifted-take : (g : ℕ) (ss : List ℤ) (ps : List ℕ) → shifted g ss ps ≡ shifted g ss (take (length ss) ps)
+unfolding shifted
+shifted-take g [] ps = refl
+shifted-take g (s ∷ ss) [] = refl
+shifted-take g (s ∷ ss) (p ∷ ps) = ap (λ (l : List ℕ). (p - g) ∷ l) (shifted-take (cond (isZero s) (suc g) g) ss ps)
 
 -- ---- what each verdict says: of the lines that result, and of the memory that is left
 abbrev pub Says : Memory → Memory → List Line → Step → Verdict → Type 0

@@ -17,21 +17,20 @@ pub fn row_at(index: &[u64], at: usize) -> usize
     (entry % 128) as usize
 }
 
-// How many of the first entries have a key above the given one, by halving. It is for the search, whose keys fall.
+// How many of the first entries have a key above the given one, by halving: the answer lies from `low` to `low + size`. It is
+// for the search, whose keys fall.
 pub fn ahead(lines: usize, index: &[u64], key: u64) -> usize
     requires { ⌜ (lines ≤ length (now index)) × Falling (take lines (now index)) ⌝ }
     ensures { λ r. ⌜ r ≡ leading key (take lines (now (index .entry))) ⌝ }
 {
     let mut low: usize = 0;
-    let mut high = lines;
-    while low < high {
-        let middle = low + (high - low) / 2;
-        let entry = index[middle];
-        if key < entry / 128 {
-            low = middle + 1;
-        } else {
-            high = middle;
-        }
+    let mut size = lines;
+    while 0 < size {
+        let half = size - size / 2;
+        let entry = index[low + half - 1];
+        let step = if key < entry / 128 { half } else { 0 };
+        low += step;
+        size -= half;
     }
     low
 }

@@ -6,9 +6,10 @@ use crate::Replaced;
 use crate::Verdict;
 use crate::form::weights_fit;
 use crate::index::row_at;
+use crate::table::fold_at;
 use crate::table::fold_in;
+use crate::table::look_up;
 use crate::table::row;
-use crate::table::weight_of;
 ghost use mathlib.Core.Path.{_≡_};
 ghost use mathlib.Core.List.{[], _∷_};
 ghost use Prim.Native.Nat.{_+_, _≤_, _<_, _^_};
@@ -19,10 +20,11 @@ ghost use Rattle.configuration.specs.Weight.{allInRange};
 ghost use Rattle.configuration.specs.Configuration.{line, addAll, isPolynomial};
 ghost use Rattle.configuration.specs.Memory.{imageOf, formed, wellFormed};
 ghost use Rattle.configuration.specs.Index.{indexedOf, linesBy, Kept};
-ghost use Rattle.configuration.specs.Replacement.{Small, Room, weightsBefore, weightsAfter, countHeld, chosen, verdictOf, replacementOf, replaced};
+ghost use Rattle.configuration.specs.Replacement.{Small, Room, Placed, placesIn, shifted, weightsBefore, weightsAfter, countHeld, chosen, verdictOf, replacementOf, replaced};
 
-// The weights of the polynomials of a table of four, before and after it is folded into another.
+// The places and the weights of the polynomials of a table of four in another, the weights before and after it is folded in.
 struct Weighed {
+    places: [usize; 4],
     before: [i64; 4],
     after: [i64; 4],
 }
@@ -40,9 +42,11 @@ fn weigh(
     new_counts: &[u32],
 ) -> Weighed
     requires { ⌜ Kept 128 head (now index) (now terms) (now weights) (now counts) × T (wellFormed (indexedOf head (now index) (now terms) (now weights) (now counts))) × Kept 4 new (now «new_index») (now «new_terms») (now «new_weights») (now «new_counts») × T (formed 4 (indexedOf new (now «new_index») (now «new_terms») (now «new_weights») (now «new_counts»))) × Small 45 (linesBy new (now «new_index») (now «new_terms») (now «new_weights») (now «new_counts»)) ⌝ }
+    ensures places { λ r. ⌜ take (new .lines) (r .places) ≡ placesIn (linesBy new (now («new_index» .entry)) (now («new_terms» .entry)) (now («new_weights» .entry)) (now («new_counts» .entry))) (linesBy head (now (index .entry)) (now (terms .entry)) (now (weights .entry)) (now (counts .entry))) ⌝ }
     ensures first { λ r. ⌜ take (new .lines) (r .before) ≡ weightsBefore (linesBy new (now («new_index» .entry)) (now («new_terms» .entry)) (now («new_weights» .entry)) (now («new_counts» .entry))) (linesBy head (now (index .entry)) (now (terms .entry)) (now (weights .entry)) (now (counts .entry))) ⌝ }
     ensures last { λ r. ⌜ take (new .lines) (r .after) ≡ weightsAfter (linesBy new (now («new_index» .entry)) (now («new_terms» .entry)) (now («new_weights» .entry)) (now («new_counts» .entry))) (linesBy head (now (index .entry)) (now (terms .entry)) (now (weights .entry)) (now (counts .entry))) ⌝ }
 {
+    let mut places = [0usize; 4];
     let mut before = [0i64; 4];
     let mut after = [0i64; 4];
     let lines = new.lines as usize;
@@ -50,7 +54,7 @@ fn weigh(
     while i < lines {
         let here = row_at(new_index, i);
         let count = new_counts[here] as usize;
-        let old = weight_of(
+        let known = look_up(
             head,
             index,
             terms,
@@ -58,11 +62,37 @@ fn weigh(
             counts,
             row(new_terms, here, count),
         );
+        let old = known.weight;
+        places[i] = known.at;
         before[i] = old;
         after[i] = old + new_weights[here];
         i += 1;
     }
-    Weighed { before, after }
+    Weighed {
+        places,
+        before,
+        after,
+    }
+}
+
+// The places of the lines that stay, once those that vanish are gone.
+fn shift(places: [usize; 4], after: &[i64]) -> [usize; 4]
+    requires { ⌜ length (now after) ≤ 4 ⌝ }
+    ensures { λ r. ⌜ take (length (now (after .entry))) r ≡ shifted 0 (now (after .entry)) places ⌝ }
+{
+    let mut shifted = [0usize; 4];
+    let mut gone: usize = 0;
+    let mut i: usize = 0;
+    while i < after.len() {
+        if gone <= places[i] {
+            shifted[i] = places[i] - gone;
+        }
+        if after[i] == 0 {
+            gone += 1;
+        }
+        i += 1;
+    }
+    shifted
 }
 
 // How many weights of a run are not zero.
@@ -80,7 +110,8 @@ fn held_weights(weights: &[i64]) -> usize
     held
 }
 
-// Folds in the lines of a table of four that vanish, or those that do not.
+// Folds in the lines of a table of four that vanish, or those that do not, at their places. Each line that comes or goes moves
+// the places of those behind it.
 fn fold_chosen(
     head: Head,
     index: &mut [u64],
@@ -92,10 +123,12 @@ fn fold_chosen(
     new_terms: &[u32],
     new_weights: &[i64],
     new_counts: &[u32],
+    places: &[usize],
+    before: &[i64],
     after: &[i64],
     vanishing: bool,
 ) -> Head
-    requires { ⌜ Kept 128 head (now index) (now terms) (now weights) (now counts) × T (formed 128 (indexedOf head (now index) (now terms) (now weights) (now counts))) × Kept 4 new (now «new_index») (now «new_terms») (now «new_weights») (now «new_counts») × T (formed 4 (indexedOf new (now «new_index») (now «new_terms») (now «new_weights») (now «new_counts»))) × (new .variables ≡ head .variables) × (length (now after) ≡ new .lines) × Room (chosen vanishing (now after) (linesBy new (now «new_index») (now «new_terms») (now «new_weights») (now «new_counts»))) (linesBy head (now index) (now terms) (now weights) (now counts)) ⌝ }
+    requires { ⌜ Kept 128 head (now index) (now terms) (now weights) (now counts) × T (formed 128 (indexedOf head (now index) (now terms) (now weights) (now counts))) × Kept 4 new (now «new_index») (now «new_terms») (now «new_weights») (now «new_counts») × T (formed 4 (indexedOf new (now «new_index») (now «new_terms») (now «new_weights») (now «new_counts»))) × (new .variables ≡ head .variables) × (length (now places) ≡ new .lines) × (length (now before) ≡ new .lines) × (length (now after) ≡ new .lines) × Placed vanishing (now after) (linesBy new (now «new_index») (now «new_terms») (now «new_weights») (now «new_counts»)) (now places) (now before) (linesBy head (now index) (now terms) (now weights) (now counts)) × Room (chosen vanishing (now after) (linesBy new (now «new_index») (now «new_terms») (now «new_weights») (now «new_counts»))) (linesBy head (now index) (now terms) (now weights) (now counts)) ⌝ }
     ensures table { λ r. ⌜ indexedOf r (now (index .exit)) (now (terms .exit)) (now (weights .exit)) (now (counts .exit)) ≡ imageOf 128 (head .variables) (addAll (chosen vanishing (now (after .entry)) (linesBy new (now («new_index» .entry)) (now («new_terms» .entry)) (now («new_weights» .entry)) (now («new_counts» .entry)))) (linesBy head (now (index .entry)) (now (terms .entry)) (now (weights .entry)) (now (counts .entry)))) ⌝ }
     ensures kept { λ r. ⌜ Kept 128 r (now (index .exit)) (now (terms .exit)) (now (weights .exit)) (now (counts .exit)) ⌝ }
 {
@@ -107,12 +140,15 @@ fn fold_chosen(
         if vanishes == vanishing {
             let here = row_at(new_index, i);
             let count = new_counts[here] as usize;
-            held = fold_in(
+            let at = places[i] + (held.lines as usize) - (head.lines as usize);
+            held = fold_at(
                 held,
                 index,
                 terms,
                 weights,
                 counts,
+                at,
+                before[i],
                 row(new_terms, here, count),
                 new_weights[here],
             );
@@ -150,12 +186,15 @@ fn fold_table(
     new_terms: &[u32],
     new_weights: &[i64],
     new_counts: &[u32],
+    places: [usize; 4],
+    before: &[i64],
     after: &[i64],
 ) -> Head
-    requires { ⌜ Kept 128 head (now index) (now terms) (now weights) (now counts) × T (formed 128 (indexedOf head (now index) (now terms) (now weights) (now counts))) × Kept 4 new (now «new_index») (now «new_terms») (now «new_weights») (now «new_counts») × T (formed 4 (indexedOf new (now «new_index») (now «new_terms») (now «new_weights») (now «new_counts»))) × (new .variables ≡ head .variables) × (now after ≡ weightsAfter (linesBy new (now «new_index») (now «new_terms») (now «new_weights») (now «new_counts»)) (linesBy head (now index) (now terms) (now weights) (now counts))) × T (allInRange (now after)) × (length (addAll (linesBy new (now «new_index») (now «new_terms») (now «new_weights») (now «new_counts»)) (linesBy head (now index) (now terms) (now weights) (now counts))) ≤ 128) ⌝ }
+    requires { ⌜ Kept 128 head (now index) (now terms) (now weights) (now counts) × T (formed 128 (indexedOf head (now index) (now terms) (now weights) (now counts))) × Kept 4 new (now «new_index») (now «new_terms») (now «new_weights») (now «new_counts») × T (formed 4 (indexedOf new (now «new_index») (now «new_terms») (now «new_weights») (now «new_counts»))) × (new .variables ≡ head .variables) × (take (new .lines) places ≡ placesIn (linesBy new (now «new_index») (now «new_terms») (now «new_weights») (now «new_counts»)) (linesBy head (now index) (now terms) (now weights) (now counts))) × (now before ≡ weightsBefore (linesBy new (now «new_index») (now «new_terms») (now «new_weights») (now «new_counts»)) (linesBy head (now index) (now terms) (now weights) (now counts))) × (now after ≡ weightsAfter (linesBy new (now «new_index») (now «new_terms») (now «new_weights») (now «new_counts»)) (linesBy head (now index) (now terms) (now weights) (now counts))) × T (allInRange (now after)) × (length (addAll (linesBy new (now «new_index») (now «new_terms») (now «new_weights») (now «new_counts»)) (linesBy head (now index) (now terms) (now weights) (now counts))) ≤ 128) ⌝ }
     ensures table { λ r. ⌜ indexedOf r (now (index .exit)) (now (terms .exit)) (now (weights .exit)) (now (counts .exit)) ≡ imageOf 128 (head .variables) (addAll (linesBy new (now («new_index» .entry)) (now («new_terms» .entry)) (now («new_weights» .entry)) (now («new_counts» .entry))) (linesBy head (now (index .entry)) (now (terms .entry)) (now (weights .entry)) (now (counts .entry)))) ⌝ }
     ensures kept { λ r. ⌜ Kept 128 r (now (index .exit)) (now (terms .exit)) (now (weights .exit)) (now (counts .exit)) ⌝ }
 {
+    let lines = after.len();
     let fewer = fold_chosen(
         head,
         index,
@@ -167,9 +206,12 @@ fn fold_table(
         new_terms,
         new_weights,
         new_counts,
+        &places[..lines],
+        before,
         after,
         true,
     );
+    let left = shift(places, after);
     fold_chosen(
         fewer,
         index,
@@ -181,6 +223,8 @@ fn fold_table(
         new_terms,
         new_weights,
         new_counts,
+        &left[..lines],
+        before,
         after,
         false,
     )
@@ -217,6 +261,7 @@ pub fn replace(
         new_counts,
     );
     let lines = new.lines as usize;
+    let places = found.places;
     let before = found.before;
     let after = found.after;
     let verdict = judge(head.lines as usize, &before[..lines], &after[..lines]);
@@ -234,6 +279,8 @@ pub fn replace(
         new_terms,
         new_weights,
         new_counts,
+        places,
+        &before[..lines],
         &after[..lines],
     );
     Replaced {

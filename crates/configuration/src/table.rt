@@ -8,9 +8,8 @@ use crate::area::write;
 use crate::index::ahead;
 use crate::index::row_at;
 use polynomial::Ordering;
-use polynomial::order::compare_by;
+use polynomial::order::compare;
 use term::key;
-use term::table::byte_degrees;
 ghost use mathlib.Core.Path.{_≡_};
 ghost use mathlib.Core.List.{_++_, _∷_};
 ghost use Prim.Native.Nat.{suc, _+_, _*_, _≤_, _<_, _^_};
@@ -18,7 +17,6 @@ ghost use lib.Dec.{T};
 ghost use lib.IntN.{_+ℤ_};
 ghost use lib.Signed.{mag};
 ghost use lib.ListN.{length, getD, take, drop};
-ghost use Rattle.term.specs.Term.{byteDegrees};
 ghost use Rattle.polynomial.specs.Polynomial.{orderOf};
 ghost use Rattle.configuration.specs.Configuration.{line, some, weight, add, isPolynomial, placeOf, isHeld};
 ghost use Rattle.configuration.specs.Memory.{imageOf, formed};
@@ -41,15 +39,8 @@ pub fn row(terms: &[u32], i: usize, count: usize) -> &[u32]
 }
 
 // Where a polynomial, whose first term has the given key, stands beside the line of an entry. The keys are compared first.
-fn order_at(
-    table: &[u8; 256],
-    entry: u64,
-    key: u64,
-    terms: &[u32],
-    counts: &[u32],
-    f: &[u32],
-) -> Ordering
-    requires { ⌜ (now table ≡ byteDegrees) × T (some (now f)) × (key ≡ firstKey (now f)) × (rowOf entry < length (now counts)) × (getD (now counts) (rowOf entry) 0 ≤ 64) × (length (now terms) ≡ 64 * length (now counts))
+fn order_at(entry: u64, key: u64, terms: &[u32], counts: &[u32], f: &[u32]) -> Ordering
+    requires { ⌜ T (some (now f)) × (key ≡ firstKey (now f)) × (rowOf entry < length (now counts)) × (getD (now counts) (rowOf entry) 0 ≤ 64) × (length (now terms) ≡ 64 * length (now counts))
         × T (some (take (getD (now counts) (rowOf entry) 0) (drop (64 * rowOf entry) (now terms)))) × (keyIn entry ≡ firstKey (take (getD (now counts) (rowOf entry) 0) (drop (64 * rowOf entry) (now terms)))) ⌝ }
     ensures { λ r. ⌜ r ≡ orderOf (now (f .entry)) (take (getD (now (counts .entry)) (rowOf entry) 0) (drop (64 * rowOf entry) (now (terms .entry)))) ⌝ }
 {
@@ -58,7 +49,7 @@ fn order_at(
     }
     let here = (entry % 128) as usize;
     let count = counts[here] as usize;
-    compare_by(table, f, row(terms, here, count))
+    compare(f, row(terms, here, count))
 }
 
 // Finds the place of a polynomial: by the keys of the first terms, then by halving.
@@ -76,13 +67,12 @@ pub fn find(
     if f.len() == 0 {
         return Place { at: 0, held: false };
     }
-    let table = byte_degrees();
     let first = key(f[0]);
     let mut high = head.lines as usize;
     let mut low = ahead(high, index, first);
     let mut middle = low;
     while low < high {
-        let order = order_at(&table, index[middle], first, terms, counts, f);
+        let order = order_at(index[middle], first, terms, counts, f);
         match order {
             Ordering::Earlier => {
                 high = middle;
@@ -105,7 +95,35 @@ pub fn find(
     }
 }
 
-// The weight of a polynomial: 0 if it is not held.
+// Where a polynomial stands, or would stand, and its weight: 0 if it is not held.
+pub struct Known {
+    pub at: usize,
+    pub weight: i64,
+}
+
+// Looks a polynomial up.
+pub fn look_up(
+    head: Head,
+    index: &[u64],
+    terms: &[u32],
+    weights: &[i64],
+    counts: &[u32],
+    f: &[u32],
+) -> Known
+    requires { ⌜ Kept (length (now counts)) head (now index) (now terms) (now weights) (now counts) × T (formed (length (now counts)) (indexedOf head (now index) (now terms) (now weights) (now counts))) × T (some (now f)) ⌝ }
+    ensures { λ r. ⌜ (r .at ≡ placeOf (now (f .entry)) (linesBy head (now (index .entry)) (now (terms .entry)) (now (weights .entry)) (now (counts .entry)))) × (r .weight ≡ weight (linesBy head (now (index .entry)) (now (terms .entry)) (now (weights .entry)) (now (counts .entry))) (now (f .entry))) ⌝ }
+{
+    let place = find(head, index, terms, weights, counts, f);
+    let at = place.at;
+    if place.held {
+        let here = row_at(index, at);
+        let weight = weights[here];
+        return Known { at, weight };
+    }
+    Known { at, weight: 0 }
+}
+
+// The weight of a polynomial.
 pub fn weight_of(
     head: Head,
     index: &[u64],
@@ -117,12 +135,8 @@ pub fn weight_of(
     requires { ⌜ Kept (length (now counts)) head (now index) (now terms) (now weights) (now counts) × T (formed (length (now counts)) (indexedOf head (now index) (now terms) (now weights) (now counts))) × T (some (now f)) ⌝ }
     ensures { λ r. ⌜ r ≡ weight (linesBy head (now (index .entry)) (now (terms .entry)) (now (weights .entry)) (now (counts .entry))) (now (f .entry)) ⌝ }
 {
-    let place = find(head, index, terms, weights, counts, f);
-    if place.held {
-        let here = row_at(index, place.at);
-        return weights[here];
-    }
-    0
+    let known = look_up(head, index, terms, weights, counts, f);
+    known.weight
 }
 
 // Puts a line in at a place among the lines, in the first row that is free.
@@ -185,6 +199,40 @@ fn remove_line(
     }
 }
 
+// Folds a weighted polynomial, not 0, in at its place, where its weight so far is known: 0 if it is not held. It is for this
+// crate.
+pub fn fold_at(
+    head: Head,
+    index: &mut [u64],
+    terms: &mut [u32],
+    weights: &mut [i64],
+    counts: &mut [u32],
+    at: usize,
+    old: i64,
+    f: &[u32],
+    amount: i64,
+) -> Head
+    requires { ⌜ Kept (length (now counts)) head (now index) (now terms) (now weights) (now counts) × T (formed (length (now counts)) (indexedOf head (now index) (now terms) (now weights) (now counts))) × T (isPolynomial (head .variables) (now f)) × T (some (now f)) × (at ≡ placeOf (now f) (linesBy head (now index) (now terms) (now weights) (now counts))) × (old ≡ weight (linesBy head (now index) (now terms) (now weights) (now counts)) (now f)) × (mag (weight (linesBy head (now index) (now terms) (now weights) (now counts)) (now f) +ℤ amount) < 2 ^ 63) × (length (add (now f) amount (linesBy head (now index) (now terms) (now weights) (now counts))) ≤ length (now counts)) ⌝ }
+    ensures table { λ r. ⌜ indexedOf r (now (index .exit)) (now (terms .exit)) (now (weights .exit)) (now (counts .exit))
+        ≡ imageOf (length (now (counts .entry))) (head .variables)
+        (add (now (f .entry)) amount (linesBy head (now (index .entry)) (now (terms .entry)) (now (weights .entry)) (now (counts .entry)))) ⌝ }
+    ensures kept { λ r. ⌜ Kept (length (now (counts .entry))) r (now (index .exit)) (now (terms .exit)) (now (weights .exit)) (now (counts .exit)) ⌝ }
+{
+    if old != 0 {
+        let here = row_at(index, at);
+        let sum = old + amount;
+        if sum == 0 {
+            return remove_line(head, index, terms, weights, counts, at);
+        }
+        weights[here] = sum;
+        return head;
+    }
+    if amount == 0 {
+        return head;
+    }
+    insert_line(head, index, terms, weights, counts, at, f, amount)
+}
+
 // Folds a weighted polynomial in: an equal polynomial's weight is added up, a weight or polynomial 0 vanishes.
 pub fn fold_in(
     head: Head,
@@ -204,19 +252,16 @@ pub fn fold_in(
     if f.len() == 0 {
         return head;
     }
-    let place = find(head, index, terms, weights, counts, f);
-    let at = place.at;
-    if place.held {
-        let here = row_at(index, at);
-        let sum = weights[here] + amount;
-        if sum == 0 {
-            return remove_line(head, index, terms, weights, counts, at);
-        }
-        weights[here] = sum;
-        return head;
-    }
-    if amount == 0 {
-        return head;
-    }
-    insert_line(head, index, terms, weights, counts, at, f, amount)
+    let known = look_up(head, index, terms, weights, counts, f);
+    fold_at(
+        head,
+        index,
+        terms,
+        weights,
+        counts,
+        known.at,
+        known.weight,
+        f,
+        amount,
+    )
 }

@@ -1,12 +1,12 @@
 -- `blank` meets its contract: three areas of zeros are the image of no lines.
-use mathlib.Core.Path.{_≡_, refl, sym, ap, _∙_}
+use mathlib.Core.Path.{_≡_, ap, _∙_}
 use mathlib.Core.List.{List, [], _++_, append-nil}
 use Prim.Native.Nat.{ℕ, _-_, _≤_}
 use native.Mathlib.Omega.{arith}
 use lib.IntN.{ℤ, pos}
 use lib.ListN.{length, take, drop, replicate, drop-of-length-le}
 use borrow.Author.Needs.{needs}
-use Rattle.configuration.specs.Memory.{Memory, imageOf, rows, weightsOf, countsOf}
+use Rattle.configuration.specs.Memory.{imageOf, rows, weightsOf, countsOf}
 use Rattle.configuration.proofs.blank.blank.Statement.{statement}
 use Rattle.configuration.proofs.blank.blank.Tie as tie
 

@@ -1,10 +1,10 @@
 -- `clear_weights` meets its contract. The invariant: the weights passed are zero, and the others as they were.
 use mathlib.Core.Path.{_≡_, refl, sym, ap, _∙_}
 use mathlib.Core.List.{List, _++_, append-nil}
-use Prim.Native.Nat.{ℕ, _+_, _-_, _≤_, _<_}
+use Prim.Native.Nat.{_+_, _-_, _≤_, _<_}
 use native.Mathlib.Omega.{arith}
 use lib.IntN.{ℤ, pos}
-use lib.ListN.{length, getD, drop, replicate, length-set, length-replicate, getD-replicate, drop-of-length-le}
+use lib.ListN.{length, getD, replicate, length-set, length-replicate, getD-replicate, drop-of-length-le}
 use lib.Seq.{paste}
 use borrow.Author.Needs.{needs}
 use Rattle.configuration.proofs.Areas.{none-pasted, more-pasted, all-pasted}

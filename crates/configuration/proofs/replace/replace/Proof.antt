@@ -48,30 +48,30 @@ after c = take ((new (start c)) .lines) (c .weigh .result .after)
 before-fits : (c : tie.After-weigh) → (new (start c)) .lines ≤ length (c .weigh .result .before)
 before-fits c =
     let s = start c in
-    prefix-fits ((new s) .lines) (c .weigh .result .before) (weightsBefore (linesOf (new s)) (linesOf (old s))) (c .weigh .ensures .0)
+    prefix-fits ((new s) .lines) (c .weigh .result .before) (weightsBefore (linesOf (new s)) (linesOf (old s))) (c .weigh .ensures .1 .0)
     (length-before (linesOf (new s)) (linesOf (old s)) ∙ table-length 4 (new s) (s .pre .3))
 
 after-fits : (c : tie.After-weigh) → (new (start c)) .lines ≤ length (c .weigh .result .after)
 after-fits c =
     let s = start c in
-    prefix-fits ((new s) .lines) (c .weigh .result .after) (weightsAfter (linesOf (new s)) (linesOf (old s))) (c .weigh .ensures .1)
+    prefix-fits ((new s) .lines) (c .weigh .result .after) (weightsAfter (linesOf (new s)) (linesOf (old s))) (c .weigh .ensures .1 .1)
     (length-after (linesOf (new s)) (linesOf (old s)) ∙ table-length 4 (new s) (s .pre .3))
 
 array-share-prefix-before : tie.Need-array-share-prefix-before
-array-share-prefix-before c = before-fits (c .before .before .before .before)
+array-share-prefix-before c = before-fits (c .before .before .before .before .before)
 
 slice-aggregate-judge : tie.Need-slice-aggregate-judge
-slice-aggregate-judge c = sym (length-take-le _ _ (before-fits (c .before .before .before .before .before)))
+slice-aggregate-judge c = sym (length-take-le _ _ (before-fits (c .before .before .before .before .before .before)))
 
 array-share-prefix-after : tie.Need-array-share-prefix-after
-array-share-prefix-after c = after-fits (c .before .before .before .before .before)
+array-share-prefix-after c = after-fits (c .before .before .before .before .before .before)
 
 slice-aggregate-judge-2 : tie.Need-slice-aggregate-judge-2
-slice-aggregate-judge-2 c = sym (length-take-le _ _ (after-fits (c .before .before .before .before .before .before)))
+slice-aggregate-judge-2 c = sym (length-take-le _ _ (after-fits (c .before .before .before .before .before .before .before)))
 
 judge-requires : tie.Need-judge-requires
 judge-requires c κs =
-    let s = start (c .before .before .before .before .before .before) in
+    let s = start (c .before .before .before .before .before .before .before) in
     formed-parts 128 (old s) (well-formed (old s) (s .pre .1)) .room
 
 enum-told : tie.Need-enum-told
@@ -79,13 +79,13 @@ enum-told c = search needs
 
 -- ---- the verdict on them
 abbrev found : tie.After-judge → tie.After-weigh
-found j = j .before .before .before .before .before .before .before
+found j = j .before .before .before .before .before .before .before .before
 
 judged : (j : tie.After-judge) → Judged (old (start (found j))) (new (start (found j))) (before (found j)) (after (found j)) (j .judge .result)
 judged j =
     let w = found j in
     let s = start w in
-    record { well = s .pre .1; new-formed = s .pre .3; before-are = w .weigh .ensures .0; after-are = w .weigh .ensures .1; verdict-is = j .judge .ensures }
+    record { well = s .pre .1; new-formed = s .pre .3; before-are = w .weigh .ensures .1 .0; after-are = w .weigh .ensures .1 .1; verdict-is = j .judge .ensures }
 
 same-length : tie.Need-same-length
 same-length c = search needs
@@ -106,20 +106,26 @@ returns c =
     let s = start w in
     (refused (old s) (new s) (before w) (after w) (j .judge .result) (judged j) (c .match .keys2), s .pre .0)
 
-array-share-prefix-after-2 : tie.Need-array-share-prefix-after-2
-array-share-prefix-after-2 c = after-fits (found (c .before .before .before .before .before .before))
+array-share-prefix-before-2 : tie.Need-array-share-prefix-before-2
+array-share-prefix-before-2 c = before-fits (found (c .before .before .before .before .before .before))
 
 slice-aggregate-fold-table : tie.Need-slice-aggregate-fold-table
-slice-aggregate-fold-table c = sym (length-take-le _ _ (after-fits (found (c .before .before .before .before .before .before .before))))
+slice-aggregate-fold-table c = sym (length-take-le _ _ (before-fits (found (c .before .before .before .before .before .before .before))))
+
+array-share-prefix-after-2 : tie.Need-array-share-prefix-after-2
+array-share-prefix-after-2 c = after-fits (found (c .before .before .before .before .before .before .before))
+
+slice-aggregate-fold-table-2 : tie.Need-slice-aggregate-fold-table-2
+slice-aggregate-fold-table-2 c = sym (length-take-le _ _ (after-fits (found (c .before .before .before .before .before .before .before .before))))
 
 fold-table-requires : tie.Need-fold-table-requires
 fold-table-requires c κs =
-    let d = c .before .before .before .before .before in
+    let d = c .before .before .before .before .before .before in
     let j = d .before .before in
     let w = found j in
     let s = start w in
     let p = passes (old s) (new s) (before w) (after w) (j .judge .result) (judged j) (d .enum-told .given .1) (s .pre .4) in
-    (s .pre .0, p .old-formed, s .pre .2, s .pre .3, s .pre .4, p .weights-are, p .in-range, p .few)
+    (s .pre .0, p .old-formed, s .pre .2, s .pre .3, s .pre .4, w .weigh .ensures .0, w .weigh .ensures .1 .0, p .weights-are, p .in-range, p .few)
 
 same-length-5 : tie.Need-same-length-5
 same-length-5 c = search needs
@@ -136,7 +142,7 @@ same-length-8 c = search needs
 returns-2 : tie.Need-returns-2
 returns-2 c =
     let t = c .before .before .before .before .before .before .before in
-    let d = t .before .before .before .before .before .before in
+    let d = t .before .before .before .before .before .before .before in
     let j = d .before .before in
     let w = found j in
     let s = start w in
@@ -164,8 +170,10 @@ replace-spec =
     same-length-3
     same-length-4
     returns
-    array-share-prefix-after-2
+    array-share-prefix-before-2
     slice-aggregate-fold-table
+    array-share-prefix-after-2
+    slice-aggregate-fold-table-2
     fold-table-requires
     same-length-5
     same-length-6

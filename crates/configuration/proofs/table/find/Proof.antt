@@ -1,6 +1,6 @@
 -- `find` meets its contract. The invariant: the place lies between the bounds, `f` stands before the line at the upper one, and the line that is
 -- looked at lies between them.
-use mathlib.Core.Path.{_≡_, sym, _∙_}
+use mathlib.Core.Path.{_≡_, refl, sym, _∙_}
 use mathlib.Core.Logic.{⊎-elim}
 use Prim.Native.Nat.{_-_, _<_, _≤_}
 use native.Mathlib.Omega.{arith}
@@ -12,33 +12,33 @@ use Rattle.polynomial.specs.Polynomial.{orderOf}
 use Rattle.configuration.specs.Configuration.{some}
 use Rattle.configuration.specs.Index.{arranged, firstKey}
 use Rattle.configuration.proofs.Forms.{rowAt}
-use Rattle.configuration.proofs.Tables.{Between, lower, upper, found, missing, some-of, first-key, row-in-table}
-use Rattle.configuration.proofs.Searches.{zero-place, kept-ordered, lines-indexed, falling, in-capacity, count-short, line-is, line-some, line-keyed, starts}
+use Rattle.configuration.proofs.Tables.{Between, lower, upper, found, missing, some-of, first-key, row-in-table, room, in-use, count-short}
+use Rattle.configuration.proofs.Searches.{zero-place, kept-ordered, falling, line-is, line-some, line-keyed, starts}
 use Rattle.configuration.proofs.table.find.Statement.{statement}
 use Rattle.configuration.proofs.table.find.Tie as tie
 
 abbrev Inv-loop : tie.InvT-loop
-Inv-loop index terms weights counts f table first high₀ low₀ middle₀ high low middle =
+Inv-loop index terms weights counts f first high₀ low₀ middle₀ high low middle =
     Between f high₀ (arranged 64 index terms) (arranged 1 index weights) (arranged 1 index counts) low high × (low ≤ middle) × (low < high → middle < high)
 
 abbrev μ-loop : tie.MeasureT-loop
-μ-loop index terms weights counts f table first high₀ low₀ middle₀ high low middle = high - low
+μ-loop index terms weights counts f first high₀ low₀ middle₀ high low middle = high - low
 
 -- the start, and the turn that a comparison belongs to
 abbrev begun : tie.After-ahead Inv-loop μ-loop → tie.Start Inv-loop μ-loop
-begun c = c .before .before .before .before .before .before .before .before .before .before
+begun c = c .before .before .before .before .before .before .before .before .before
 
 abbrev turn : tie.After-order-at Inv-loop μ-loop → tie.In-loop Inv-loop μ-loop
-turn c = c .before .before .before
+turn c = c .before .before
 
 some-f : (c : tie.After-ahead Inv-loop μ-loop) → T (some (now (begun c .args .f)))
-some-f c = some-of (now (begun c .args .f)) (c .before .before .before .before .before .if1 .left)
+some-f c = some-of (now (begun c .args .f)) (c .before .before .before .before .if1 .left)
 
 first-is : (c : tie.After-ahead Inv-loop μ-loop) → c .before .before .key .result ≡ firstKey (now (begun c .args .f))
 first-is c = c .before .before .key .ensures .0 ∙ first-key (now (begun c .args .f)) (some-f c)
 
-room : (s : tie.Start Inv-loop μ-loop) → s .args .head .lines ≤ length (now (s .args .index))
-room s = lines-indexed (s .pre .0) (s .pre .1)
+indexed : (s : tie.Start Inv-loop μ-loop) → s .args .head .lines ≤ length (now (s .args .index))
+indexed s = room (s .pre .0) (s .pre .1)
 
 -- the line that is looked at
 in-table : (c : tie.In-loop Inv-loop μ-loop) → c .before .loop .middle < begun (c .before .before) .args .head .lines
@@ -77,9 +77,6 @@ returns c =
     let s = c .before .before .before .before .before in
     zero-place _ _ (c .if1 .taken) (kept-ordered (s .pre .0) (s .pre .1))
 
-byte-degrees-requires : tie.Need-byte-degrees-requires Inv-loop μ-loop
-byte-degrees-requires c κs = search needs
-
 shared-slice-read-key : tie.Need-shared-slice-read-key Inv-loop μ-loop
 shared-slice-read-key c = search needs
 
@@ -91,36 +88,35 @@ cast-high c = search needs
 
 ahead-requires : tie.Need-ahead-requires Inv-loop μ-loop
 ahead-requires c κs =
-    let s = c .before .before .before .before .before .before .before .before .before in
-    (room s, falling (s .pre .0) (s .pre .1))
+    let s = c .before .before .before .before .before .before .before .before in
+    (indexed s, falling (s .pre .0) (s .pre .1))
 
 loop-holds : tie.Need-loop-holds Inv-loop μ-loop
 loop-holds c =
     let s = begun c in (
       rw (c .ahead .ensures, first-is c) (starts (s .pre .0) (s .pre .1) (now (s .args .f)) (some-f c) (c .before .before .before .shared-slice-known5 .given 0 .fits)
-          (λ i. c .before .before .before .before .before .before .before .before .shared-slice-known2 .given i .fits)),
+          (λ i. c .before .before .before .before .before .before .before .shared-slice-known2 .given i .fits)),
       omega arith,
       λ h. h,
     )
 
 mul-order-at : tie.Need-mul-order-at Inv-loop μ-loop
-mul-order-at c = omega (arith, in-table (c .before), room (begun (c .before .before .before)))
+mul-order-at c = omega (arith, in-table c, indexed (begun (c .before .before)))
 
 shared-slice-read-order-at : tie.Need-shared-slice-read-order-at Inv-loop μ-loop
-shared-slice-read-order-at c = omega (arith, in-table (c .before .before), room (begun (c .before .before .before .before)))
+shared-slice-read-order-at c = omega (arith, in-table (c .before), indexed (begun (c .before .before .before)))
 
 order-at-requires : tie.Need-order-at-requires Inv-loop μ-loop
 order-at-requires c κs =
-    let a = c .before .before .before .before in
+    let a = c .before .before .before in
     let s = begun a in
     let k = s .pre .0 in
-    let i = c .before .before .before .loop .middle in
-    let l = in-table (c .before .before) in (
-      a .before .before .before .before .byte-degrees .ensures,
+    let i = c .before .before .loop .middle in
+    let l = in-table (c .before) in (
       some-f a,
       first-is a,
-      row-in-table k i (in-capacity k (s .pre .1) i l),
-      count-short k (s .pre .1) i l,
+      row-in-table k i (in-use k (s .pre .1) i l),
+      count-short k (s .pre .1) i _ l refl,
       k .terms-length,
       line-some k (s .pre .1) i l,
       line-keyed k (s .pre .1) i l,
@@ -143,7 +139,7 @@ enum-told-3 : tie.Need-enum-told-3 Inv-loop μ-loop
 enum-told-3 c = search needs
 
 add-low : tie.Need-add-low Inv-loop μ-loop
-add-low c = let k = turn (c .before .before) in omega (arith, in-table k, room (begun (k .before .before)))
+add-low c = let k = turn (c .before .before) in omega (arith, in-table k, indexed (begun (k .before .before)))
 
 sub-middle : tie.Need-sub-middle Inv-loop μ-loop
 sub-middle c = let b = narrowed (c .before .before) .0 in omega (arith, b .from, b .to)
@@ -167,7 +163,6 @@ find-spec =
     Inv-loop
     μ-loop
     returns
-    byte-degrees-requires
     shared-slice-read-key
     key-requires
     cast-high

@@ -20,9 +20,9 @@ returns c =
     let r : ℕ = rowOf (s .args .entry) in
     let n : ℕ = getD (now (s .args .counts)) r 0 in
     let g : List ℕ = take n (drop (64 * r) (now (s .args .terms))) in
-    sym (key-earlier (now (s .args .f)) g (p .1) (p .6) (c .before .shared-slice-known3 .given 0 .fits)
+    sym (key-earlier (now (s .args .f)) g (p .0) (p .5) (c .before .shared-slice-known3 .given 0 .fits)
     (first-below (2 ^ 32) n (64 * r) (now (s .args .terms)) (omega arith) (λ i. c .before .before .before .shared-slice-known .given i .fits))
-    (rw (← p .2, ← p .7) (c .if1 .taken)))
+    (rw (← p .1, ← p .6) (c .if1 .taken)))
 
 mul-count : tie.Need-mul-count
 mul-count c = search needs
@@ -36,11 +36,11 @@ cast-count c = search needs
 row-requires : tie.Need-row-requires
 row-requires c κs = search needs
 
-compare-by-requires : tie.Need-compare-by-requires
-compare-by-requires c κs = search needs
+compare-requires : tie.Need-compare-requires
+compare-requires c κs = search needs
 
 returns-2 : tie.Need-returns-2
-returns-2 c = c .compare-by .ensures ∙ ap (orderOf _) (c .before .row .ensures)
+returns-2 c = c .compare .ensures ∙ ap (orderOf _) (c .before .row .ensures)
 
 pub order-at-spec : {M : Type 1} → statement M
 order-at-spec =
@@ -51,5 +51,5 @@ order-at-spec =
     shared-slice-read-count
     cast-count
     row-requires
-    compare-by-requires
+    compare-requires
     returns-2)
