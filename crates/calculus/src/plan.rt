@@ -1,5 +1,5 @@
-// What a rule takes away and gives, folded in a table of four lines before the configuration is touched. It is for
-// `step` alone, which has tested the amount and the operands and lends an empty table.
+// What a rule takes away and gives, folded in a table of four lines before the configuration is touched. It is for `change` of
+// this crate alone, which lends an empty table once the amount and the operands are tested.
 use crate::Rule;
 use configuration::Head;
 use configuration::table::fold_in;
@@ -26,7 +26,7 @@ pub struct Plan {
     pub head: Head,
 }
 
-// A plan that does not fit: the table stays empty.
+// A plan that does not fit: nothing is folded in.
 fn unfit(variables: u32) -> Plan
     ensures { λ r. ⌜ r ≡ record { fits = false; head = record { variables = variables; lines = 0 } } ⌝ }
 {
@@ -115,7 +115,7 @@ fn plan_prod(
     Plan { fits: true, head }
 }
 
-// The plan of a rule.
+// The plan of a rule. It is for `change` of this crate.
 pub fn plan_of(
     rule: Rule,
     variables: u32,

@@ -1,4 +1,5 @@
-// The index of a table: the order of its lines, while the lines themselves stay in their rows.
+// The index of a table: the order of its lines, while the lines themselves stay in their rows. Functions with a `requires` are
+// for this crate and those above it, which have tested the areas.
 use term::key_by;
 use term::table::byte_degrees;
 ghost use mathlib.Core.Path.{_≡_};
@@ -35,7 +36,7 @@ pub fn ahead(lines: usize, index: &[u64], key: u64) -> usize
     low
 }
 
-// The index of a table whose lines stand in turn: the first in row 0, and so on.
+// The index of a table whose lines stand in turn: the first in row 0, and so on. The operations above make it when they begin.
 pub fn in_turn(terms: &[u32]) -> [u64; 128]
     requires { ⌜ length (now terms) ≡ 8192 ⌝ }
     ensures { λ r. ⌜ r ≡ inTurn 128 0 (now (terms .entry)) ⌝ }
@@ -83,7 +84,7 @@ fn relabel(index: &mut [u64], from: usize, row: u64, other: u64)
     }
 }
 
-// Puts the lines in turn: each in the row of its place.
+// Puts the lines in turn: each in the row of its place. The operations above end with it.
 pub fn settle(index: [u64; 128], terms: &mut [u32], weights: &mut [i64], counts: &mut [u32])
     requires { ⌜ Once 128 index × (length (now terms) ≡ 8192) × (length (now weights) ≡ 128) × (length (now counts) ≡ 128) ⌝ }
     ensures { λ _. ⌜ (now (terms .exit) ≡ arranged 64 index (now (terms .entry))) × (now (weights .exit) ≡ arranged 1 index (now (weights .entry))) × (now (counts .exit) ≡ arranged 1 index (now (counts .entry))) ⌝ }
