@@ -203,43 +203,6 @@ unfolding addAll
 all-short [] L r = omega arith
 all-short (line f w ∷ C) L r = omega (arith, all-short C (add f w L) (add-ordered f w L r), add-short f w L r)
 
-pub record Gathered (C : List Line) (n : ℕ) (m : Memory) : Type 0 where
-  pub is-formed : T (formed 4 m)
-  pub variables-are : m .variables ≡ n
-  pub lines-are : linesOf m ≡ addAll C []
-  pub small : Small 42 C
-
-pub gather-none : (n : ℕ) (m : Memory) → m ≡ imageOf 4 n [] → Gathered [] n m
-unfolding linesFit addAll readLines rows weightsOf countsOf
-gather-none n m e = rw e (record { is-formed = image-formed 4 n [] (omega arith) tt; variables-are = refl; lines-are = refl; small = tt })
-
-module _ (C : List Line) (n : ℕ) (m : Memory) (g : Gathered C n m) where
-  pub gather-small : length C ≤ 4 → Small 45 (linesOf m)
-  gather-small h = subst (Small 45) (sym (g .lines-are)) (netted-small C h (g .small))
-
-  -- replacing by the table replaces by the changes
-  pub gather-replaced : (old : Memory) → T (wellFormed old) → replaced (linesOf m) old ≡ replaced C old
-  gather-replaced old t = ap (λ (N : List Line). replaced N old) (g .lines-are) ∙ replaced-netted C old (table-ordered 128 old (well-formed old t))
-
-  module _ (f : List ℕ) (w : ℤ) (h : length C < 4) (k : mag w < 2 ^ 42) where
-    pub gather-room : length (add f w (linesOf m)) ≤ 4
-    gather-room = omega (arith, add-short f w (linesOf m) (table-ordered 4 m (g .is-formed)), ap length (g .lines-are), all-short C [] tt)
-
-    pub gather-fits : mag (weight (linesOf m) f +ℤ w) < 2 ^ 63
-    gather-fits =
-        let a : mag (weight (linesOf m) f) < 2 ^ 45 = rw (g .lines-are) (netted-weight C (omega arith) (g .small) f) in
-        omega (arith, mag-add (weight (linesOf m) f) w)
-
-    pub gather-more : (m′ : Memory) → T (isPolynomial n f) → m′ ≡ imageOf 4 (m .variables) (add f w (linesOf m)) → Gathered (C ++ (line f w ∷ [])) n m′
-    gather-more m′ q x =
-        let p : T (isPolynomial (m .variables) f) = rw (g .variables-are) q in
-        record {
-          is-formed = added-formed 4 m m′ f w (g .is-formed) p gather-room x;
-          variables-are = added-variables 4 m m′ f w (g .is-formed) p gather-room x ∙ g .variables-are;
-          lines-are = added-lines 4 m m′ f w (g .is-formed) p gather-room x ∙ ap (add f w) (g .lines-are) ∙ sym (all-snoc C [] f w);
-          small = small-snoc 42 C f w (g .small) k;
-        }
-
 -- ---- the places, and the weights before and after, one by one: W of the lines of N, G of one of them
 module _ {A : Type 0} (W : List Line → List A) (G : List ℕ → ℤ → A) (nil : W [] ≡ []) (more : (f : List ℕ) (w : ℤ) (N : List Line) → W (line f w ∷ N) ≡ G f w ∷ W N) (N : List Line)
     (i : ℕ) (l : List A) (inv : take i l ++ W (drop i N) ≡ W N) where
@@ -534,48 +497,81 @@ module _ (old new : Memory) where
           ∙ ap (λ (l : List ℤ). addAll (chosen false l N) (addAll (chosen true l N) L)) (p .weights-are) ∙ two-passes N L (table-ordered 128 old (p .old-formed)) in
           x ∙ ap₂ (imageOf 128) (ap (λ (z : Memory). z .variables) e) y
 
-  -- judged: the weights B before and A afterwards, and the verdict v on them
-  pub record Judged (B A : List ℤ) (v : Verdict) : Type 0 where
-    pub well : T (wellFormed old)
-    pub new-formed : T (formed 4 new)
-    pub before-are : B ≡ weightsBefore N L
-    pub after-are : A ≡ weightsAfter N L
-    pub verdict-is : v ≡ verdictOf (leb (old .lines + countHeld A) (128 + countHeld B)) (allInRange A)
+-- ---- lines N, in order, that are to be folded into a table: judged by the weights B before and A afterwards, with the verdict v
+pub record Judged (old : Memory) (N : List Line) (B A : List ℤ) (v : Verdict) : Type 0 where
+  pub well : T (wellFormed old)
+  pub in-order : Ordered N
+  pub before-are : B ≡ weightsBefore N (linesOf old)
+  pub after-are : A ≡ weightsAfter N (linesOf old)
+  pub verdict-is : v ≡ verdictOf (leb (old .lines + countHeld A) (128 + countHeld B)) (allInRange A)
 
-  module _ (B A : List ℤ) (v : Verdict) (j : Judged B A v) where
-    abbrev few : Bool
-    few = leb (old .lines + countHeld A) (128 + countHeld B)
+module _ (old : Memory) (N : List Line) (B A : List ℤ) (v : Verdict) (j : Judged old N B A v) where
+  abbrev held : List Line
+  held = linesOf old
 
-    whole-formed : T (formed 128 old)
-    whole-formed = well-formed old (j .well)
+  abbrev enough : Bool
+  enough = leb (old .lines + countHeld A) (128 + countHeld B)
 
-    outcome-is : replaced N old ≡ outcome old (addAll N L) few (allInRange A)
-    outcome-is =
-        replace-is N old (table-ordered 4 new (j .new-formed)) (table-ordered 128 old whole-formed) (weights-bound old (j .well))
-        ∙ ap (λ (l : ℕ). outcome old (addAll N L) (leb (l + countHeld (weightsAfter N L)) (128 + countHeld (weightsBefore N L))) (allInRange (weightsAfter N L))) (table-length 128 old whole-formed)
-        ∙ ap₂ (λ (a b : List ℤ). outcome old (addAll N L) (leb (old .lines + countHeld a) (128 + countHeld b)) (allInRange a)) (sym (j .after-are)) (sym (j .before-are))
+  whole-formed : T (formed 128 old)
+  whole-formed = well-formed old (j .well)
 
-    pub refused : OneOf (1 ∷ 2 ∷ []) (tagOf the-type v) → replacementOf old v ≡ replaced N old
-    refused o = refused-is old (addAll N L) v few (allInRange A) (j .verdict-is) o ∙ sym outcome-is
+  outcome-is : replaced N old ≡ outcome old (addAll N held) enough (allInRange A)
+  outcome-is =
+      replace-is N old (j .in-order) (table-ordered 128 old whole-formed) (weights-bound old (j .well))
+      ∙ ap (λ (l : ℕ). outcome old (addAll N held) (leb (l + countHeld (weightsAfter N held)) (128 + countHeld (weightsBefore N held))) (allInRange (weightsAfter N held))) (table-length 128 old whole-formed)
+      ∙ ap₂ (λ (a b : List ℤ). outcome old (addAll N held) (leb (old .lines + countHeld a) (128 + countHeld b)) (allInRange a)) (sym (j .after-are)) (sym (j .before-are))
 
-    module _ (d : v ≡ Done) where
-      tests : T few × T (allInRange A)
-      tests = done-tests few (allInRange A) (sym d ∙ j .verdict-is)
+  pub refused : OneOf (1 ∷ 2 ∷ []) (tagOf the-type v) → replacementOf old v ≡ replaced N old
+  refused o = refused-is old (addAll N held) v enough (allInRange A) (j .verdict-is) o ∙ sym outcome-is
 
-      pub passes : new .variables ≡ old .variables → Passes A
-      passes e =
-          let h : old .lines + countHeld A ≤ 128 + countHeld B = leb→le (old .lines + countHeld A) (128 + countHeld B) (tests .0) in
-          let l = after-length N L (table-ordered 4 new (j .new-formed)) (table-ordered 128 old whole-formed) in
-          record {
-            old-formed = whole-formed;
-            new-formed = j .new-formed;
-            same-variables = e;
-            weights-are = j .after-are;
-            in-range = tests .1;
-            few = omega (arith, ap countHeld (j .after-are), ap countHeld (j .before-are), table-length 128 old whole-formed);
-          }
+  module _ (d : v ≡ Done) where
+    tests : T enough × T (allInRange A)
+    tests = done-tests enough (allInRange A) (sym d ∙ j .verdict-is)
 
-      pub replaced-is : (m : Memory) → m ≡ imageOf 128 (old .variables) (addAll N L) → replacementOf m v ≡ replaced N old
-      replaced-is m x =
-          ap₂ (λ (a : Memory) (b : Verdict). replacementOf a b) x d
-          ∙ sym (outcome-is ∙ ap₂ (λ (a b : Bool). outcome old (addAll N L) a b) (is-true few (tests .0)) (is-true (allInRange A) (tests .1)))
+    pub judged-range : T (allInRange A)
+    judged-range = tests .1
+
+    pub judged-few : length (addAll N held) ≤ 128
+    judged-few = omega (
+      arith,
+      leb→le (old .lines + countHeld A) (128 + countHeld B) (tests .0),
+      after-length N held (j .in-order) (table-ordered 128 old whole-formed),
+      ap countHeld (j .after-are),
+      ap countHeld (j .before-are),
+      table-length 128 old whole-formed,
+    )
+
+    pub replaced-is : (m : Memory) → m ≡ imageOf 128 (old .variables) (addAll N held) → replacementOf m v ≡ replaced N old
+    replaced-is m x =
+        ap₂ (λ (a : Memory) (b : Verdict). replacementOf a b) x d
+        ∙ sym (outcome-is ∙ ap₂ (λ (a b : Bool). outcome old (addAll N held) a b) (is-true enough (tests .0)) (is-true (allInRange A) (tests .1)))
+
+-- a table of four can then be folded in, in two passes
+pub passes : (old new : Memory) (B A : List ℤ) (v : Verdict) → Judged old (linesOf new) B A v → v ≡ Done → T (formed 4 new) → new .variables ≡ old .variables → Passes old new A
+passes old new B A v j d t e = record {
+  old-formed = well-formed old (j .well);
+  new-formed = t;
+  same-variables = e;
+  weights-are = j .after-are;
+  in-range = judged-range old (linesOf new) B A v j d;
+  few = judged-few old (linesOf new) B A v j d;
+}
+
+-- ---- nothing is folded in
+pub nothing-replaced : (m : Memory) → T (wellFormed m) → replacementOf m Done ≡ replaced [] m
+unfolding weightsBefore weightsAfter countHeld allInRange addAll
+nothing-replaced m t =
+    let k : T (formed 128 m) = well-formed m t in
+    let j : Judged m [] [] [] Done = record {
+      well = t;
+      in-order = tt;
+      before-are = refl;
+      after-are = refl;
+      verdict-is = judged-done (m .lines + 0) (128 + 0) true (omega (arith, formed-parts 128 m k .room)) refl;
+    } in
+    replaced-is m [] [] [] Done j refl m (formed-image 128 m k)
+
+pub nothing-added : (m : Memory) (f : List ℕ) (w : ℤ) → T (wellFormed m) → length f ≡ 0 → replacementOf m Done ≡ replaced (line f w ∷ []) m
+unfolding replaced addAll add
+nothing-added m [] w t e = nothing-replaced m t
+nothing-added m (x ∷ f) w t e = let z : ⊥ = omega (arith, e) in absurd z

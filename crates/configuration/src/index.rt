@@ -3,10 +3,10 @@
 use term::key_by;
 use term::table::byte_degrees;
 ghost use mathlib.Core.Path.{_≡_};
-ghost use mathlib.Core.List.{_++_, map};
-ghost use Prim.Native.Nat.{_+_, _*_, _≤_, _<_};
+ghost use mathlib.Core.List.{_++_};
+ghost use Prim.Native.Nat.{_+_, _*_, _≤_, _<_, _^_};
 ghost use lib.ListN.{length, getD, take, drop};
-ghost use Rattle.configuration.specs.Index.{rowOf, arranged, Once, ahead as leading, Falling, inTurn};
+ghost use Rattle.configuration.specs.Index.{rowOf, keyIn, arranged, Once, ahead as leading, Falling, inTurn};
 ghost use Rattle.configuration.specs.Settling.{exchanged, relabelled};
 
 // The row of the line at a place.
@@ -18,10 +18,19 @@ pub fn row_at(index: &[u64], at: usize) -> usize
     (entry % 128) as usize
 }
 
+// 1 where the key of an entry is above the given one, else 0. It is worked out without a branch: in a search nothing could
+// guess which way it goes.
+fn above(entry: u64, key: u64) -> usize
+    requires { ⌜ key < 2 ^ 38 ⌝ }
+    ensures { λ r. ⌜ (key < keyIn entry → r ≡ 1) × (keyIn entry ≤ key → r ≡ 0) ⌝ }
+{
+    ((entry / 128 + 9223372036854775807 - key) / 9223372036854775808) as usize
+}
+
 // How many of the first entries have a key above the given one, by halving: the answer lies from `low` to `low + size`. It is
 // for the search, whose keys fall.
 pub fn ahead(lines: usize, index: &[u64], key: u64) -> usize
-    requires { ⌜ (lines ≤ length (now index)) × Falling (take lines (now index)) ⌝ }
+    requires { ⌜ (lines ≤ length (now index)) × Falling (take lines (now index)) × (key < 2 ^ 38) ⌝ }
     ensures { λ r. ⌜ r ≡ leading key (take lines (now (index .entry))) ⌝ }
 {
     let mut low: usize = 0;
@@ -29,8 +38,7 @@ pub fn ahead(lines: usize, index: &[u64], key: u64) -> usize
     while 0 < size {
         let half = size - size / 2;
         let entry = index[low + half - 1];
-        let step = if key < entry / 128 { half } else { 0 };
-        low += step;
+        low += half * above(entry, key);
         size -= half;
     }
     low

@@ -7,16 +7,16 @@ use crate::Verdict;
 use crate::form::weights_fit;
 use crate::index::row_at;
 use crate::table::fold_at;
-use crate::table::fold_in;
 use crate::table::look_up;
 use crate::table::row;
 ghost use mathlib.Core.Path.{_≡_};
+ghost use mathlib.Core.Bool.{not};
 ghost use mathlib.Core.List.{[], _∷_};
 ghost use Prim.Native.Nat.{_+_, _≤_, _<_, _^_};
 ghost use lib.Dec.{T, leb};
 ghost use lib.Signed.{mag};
 ghost use lib.ListN.{length, take};
-ghost use Rattle.configuration.specs.Weight.{allInRange};
+ghost use Rattle.configuration.specs.Weight.{isZero, allInRange};
 ghost use Rattle.configuration.specs.Configuration.{line, addAll, isPolynomial};
 ghost use Rattle.configuration.specs.Memory.{imageOf, formed, wellFormed};
 ghost use Rattle.configuration.specs.Index.{indexedOf, linesBy, Kept};
@@ -148,8 +148,8 @@ fn fold_chosen(
                 weights,
                 counts,
                 at,
-                before[i],
                 row(new_terms, here, count),
+                before[i],
                 new_weights[here],
             );
         }
@@ -248,6 +248,12 @@ pub fn replace(
     ensures table { λ r. ⌜ replacementOf (indexedOf (r .head) (now (index .exit)) (now (terms .exit)) (now (weights .exit)) (now (counts .exit))) (r .verdict) ≡ replaced (linesBy new (now («new_index» .entry)) (now («new_terms» .entry)) (now («new_weights» .entry)) (now («new_counts» .entry))) (indexedOf head (now (index .entry)) (now (terms .entry)) (now (weights .entry)) (now (counts .entry))) ⌝ }
     ensures kept { λ r. ⌜ Kept 128 (r .head) (now (index .exit)) (now (terms .exit)) (now (weights .exit)) (now (counts .exit)) ⌝ }
 {
+    if new.lines == 0 {
+        return Replaced {
+            head,
+            verdict: Verdict::Done,
+        };
+    }
     let found = weigh(
         head,
         index,
@@ -300,37 +306,41 @@ pub fn add(
     f: &[u32],
     amount: i64,
 ) -> Replaced
-    requires { ⌜ Kept 128 head (now index) (now terms) (now weights) (now counts) × T (wellFormed (indexedOf head (now index) (now terms) (now weights) (now counts))) × T (isPolynomial (head .variables) (now f)) × (mag amount < 2 ^ 42) ⌝ }
+    requires { ⌜ Kept 128 head (now index) (now terms) (now weights) (now counts) × T (wellFormed (indexedOf head (now index) (now terms) (now weights) (now counts))) × T (isPolynomial (head .variables) (now f)) × (mag amount < 2 ^ 42) × T (not (isZero amount)) ⌝ }
     ensures table { λ r. ⌜ replacementOf (indexedOf (r .head) (now (index .exit)) (now (terms .exit)) (now (weights .exit)) (now (counts .exit))) (r .verdict) ≡ replaced (line (now (f .entry)) amount ∷ []) (indexedOf head (now (index .entry)) (now (terms .entry)) (now (weights .entry)) (now (counts .entry))) ⌝ }
     ensures kept { λ r. ⌜ Kept 128 (r .head) (now (index .exit)) (now (terms .exit)) (now (weights .exit)) (now (counts .exit)) ⌝ }
 {
-    let mut new_index = [0u64, 1, 2, 3];
-    let mut new_terms = [0u32; 256];
-    let mut new_weights = [0i64; 4];
-    let mut new_counts = [0u32; 4];
-    let none = Head {
-        variables: head.variables,
-        lines: 0,
+    if f.len() == 0 {
+        return Replaced {
+            head,
+            verdict: Verdict::Done,
+        };
+    }
+    let known = look_up(head, index, terms, weights, counts, f);
+    let old = known.weight;
+    let before = [old];
+    let sum = old + amount;
+    let after = [sum];
+    let outcome = judge(head.lines as usize, &before, &after);
+    let Verdict::Done = outcome else {
+        return Replaced {
+            head,
+            verdict: outcome,
+        };
     };
-    let new = fold_in(
-        none,
-        &mut new_index,
-        &mut new_terms,
-        &mut new_weights,
-        &mut new_counts,
-        f,
-        amount,
-    );
-    replace(
+    let last = fold_at(
         head,
         index,
         terms,
         weights,
         counts,
-        new,
-        &new_index,
-        &new_terms,
-        &new_weights,
-        &new_counts,
-    )
+        known.at,
+        f,
+        old,
+        amount,
+    );
+    Replaced {
+        head: last,
+        verdict: outcome,
+    }
 }

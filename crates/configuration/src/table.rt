@@ -9,6 +9,7 @@ use crate::index::ahead;
 use crate::index::row_at;
 use polynomial::Ordering;
 use polynomial::order::compare;
+use polynomial::order::least;
 use term::key;
 ghost use mathlib.Core.Path.{_≡_};
 ghost use mathlib.Core.List.{_++_, _∷_};
@@ -52,7 +53,8 @@ fn order_at(entry: u64, key: u64, terms: &[u32], counts: &[u32], f: &[u32]) -> O
     compare(f, row(terms, here, count))
 }
 
-// Finds the place of a polynomial: by the keys of the first terms, then by halving.
+// Finds the place of a polynomial: by the keys of the first terms, then among those that follow. Few lines have one first term,
+// so the first line is looked at first, and a probe reaches twice as far as the one before, at most to the middle of the rest.
 pub fn find(
     head: Head,
     index: &[u64],
@@ -71,6 +73,7 @@ pub fn find(
     let mut high = head.lines as usize;
     let mut low = ahead(high, index, first);
     let mut middle = low;
+    let mut reach: usize = 0;
     while low < high {
         let order = order_at(index[middle], first, terms, counts, f);
         match order {
@@ -87,7 +90,8 @@ pub fn find(
                 low = middle + 1;
             }
         }
-        middle = low + (high - low) / 2;
+        middle = low + least(reach, (high - low) / 2);
+        reach = least(2 * reach + 1, 127);
     }
     Place {
         at: low,
@@ -208,8 +212,8 @@ pub fn fold_at(
     weights: &mut [i64],
     counts: &mut [u32],
     at: usize,
-    old: i64,
     f: &[u32],
+    old: i64,
     amount: i64,
 ) -> Head
     requires { ⌜ Kept (length (now counts)) head (now index) (now terms) (now weights) (now counts) × T (formed (length (now counts)) (indexedOf head (now index) (now terms) (now weights) (now counts))) × T (isPolynomial (head .variables) (now f)) × T (some (now f)) × (at ≡ placeOf (now f) (linesBy head (now index) (now terms) (now weights) (now counts))) × (old ≡ weight (linesBy head (now index) (now terms) (now weights) (now counts)) (now f)) × (mag (weight (linesBy head (now index) (now terms) (now weights) (now counts)) (now f) +ℤ amount) < 2 ^ 63) × (length (add (now f) amount (linesBy head (now index) (now terms) (now weights) (now counts))) ≤ length (now counts)) ⌝ }
@@ -260,8 +264,8 @@ pub fn fold_in(
         weights,
         counts,
         known.at,
-        known.weight,
         f,
+        known.weight,
         amount,
     )
 }

@@ -1,14 +1,15 @@
 -- A weighted polynomial folded into the areas: what the replacement's verdict says of the lines, and what then holds before the next record.
 use mathlib.Core.Path.{_≡_, sym, ap, subst, _∙_}
-use mathlib.Core.Bool.{true}
+use mathlib.Core.Bool.{true, not}
 use mathlib.Core.List.{List, [], _∷_}
-use Prim.Native.Nat.{ℕ, suc, _+_, _^_, _≤_, _<_}
+use Prim.Native.Nat.{ℕ, zero, suc, _+_, _^_, _≤_, _<_}
 use native.Mathlib.Omega.{arith}
 use lib.Dec.{T, leb, leb→le}
 use lib.IntN.{ℤ, pos, negsuc}
 use lib.Signed.{mag}
 use lib.ListN.{length, take}
 use Rattle.run.specs.Boolean.{of-true}
+use Rattle.configuration.specs.Weight.{isZero}
 use Rattle.configuration.specs.Configuration.{Line, line, add, addAll, isPolynomial, linesFit, weightsFit}
 use Rattle.configuration.specs.ConfigurationLaws.{all-fit}
 use Rattle.configuration.specs.Memory.{Memory, linesOf, imageOf, wellFormed}
@@ -33,6 +34,11 @@ use Rattle.run.specs.Boolean as B
 pub small-weight : (w : ℤ) → T (weightFits w) → mag w < 2 ^ 42
 small-weight (pos n) h = let k = leb→le n 1000000000 (B.right (leb 1 n) (leb n 1000000000) h) in omega arith
 small-weight (negsuc n) h = absurd h
+
+pub not-zero : (w : ℤ) → T (weightFits w) → T (not (isZero w))
+not-zero (pos zero) h = absurd h
+not-zero (pos (suc n)) h = tt
+not-zero (negsuc n) h = absurd h
 
 -- ---- what is then in the areas
 module _ (p : Progress) (us is ts : List ℕ) (ws : List ℤ) (cs : List ℕ) (ready : Ready p us is ts ws cs) (f : List ℕ) (w : ℤ) where

@@ -1,104 +1,123 @@
--- `add` meets its contract: a replacement by a table of four that one weighted polynomial was folded into.
-use mathlib.Core.Path.{_≡_, ap, _∙_}
-use mathlib.Core.List.{[], _∷_}
-use Prim.Native.Nat.{ℕ, _^_, _<_}
+-- `add` meets its contract: the weight before and afterwards is judged, and only then the polynomial folded in at its place.
+use mathlib.Core.Path.{_≡_, refl, sym, subst, ap, ap₂, _∙_}
+use mathlib.Core.List.{List, [], _∷_}
+use Prim.Native.Nat.{ℕ, _+_, _≤_}
 use native.Mathlib.Omega.{arith}
-use lib.IntN.{ℤ, pos}
+use lib.Dec.{T, leb}
+use lib.IntN.{ℤ, _+ℤ_}
 use lib.Signed.{mag}
-use lib.ListN.{replicate}
+use lib.ListN.{length}
 use mir.Syntax.{w64}
 use mir.Val.{toZ, ofZ}
 use mir.Facts.{toZ-ofZ}
 use borrow.Author.Needs.{needs}
-use Rattle.configuration.specs.Configuration.{line}
-use Rattle.configuration.specs.Memory.{Memory, linesOf}
-use Rattle.configuration.specs.Index.{indexedOf}
-use Rattle.configuration.specs.Replacement.{replaced}
-use Rattle.configuration.specs.TurnLaws.{empty, four-kept, four-memory}
-use Rattle.configuration.proofs.Replacements.{Gathered, gather-none, gather-small, gather-replaced, gather-room, gather-fits, gather-more}
+use Rattle.configuration.specs.Weight.{limit, allInRange}
+use Rattle.configuration.specs.Configuration.{Line, line, some, weight, add, addAll}
+use Rattle.configuration.specs.Memory.{Memory, linesOf, imageOf, formed}
+use Rattle.configuration.specs.MemoryLaws.{well-formed, formed-parts, weights-bound}
+use Rattle.configuration.specs.Index.{indexedOf, Kept}
+use Rattle.configuration.specs.Replacement.{weightsBefore, weightsAfter, countHeld, verdictOf}
+use Rattle.configuration.specs.PlaceLaws.{fit-weight}
+use Rattle.configuration.specs.ReplacementLaws.{in-range-mag, mag-add}
+use Rattle.configuration.proofs.Areas.{read-back}
+use Rattle.configuration.proofs.Tables.{some-of}
+use Rattle.configuration.proofs.Replacements.{table-ordered, sum-fits, sum-is, fold-asks, fold-gives, Judged, refused, judged-few, replaced-is, nothing-added}
 use Rattle.configuration.proofs.replace.add.Statement.{statement}
 use Rattle.configuration.proofs.replace.add.Tie as tie
-
-slice-aggregate-fold-in : tie.Need-slice-aggregate-fold-in
-slice-aggregate-fold-in c = search needs
-
-slice-aggregate-fold-in-2 : tie.Need-slice-aggregate-fold-in-2
-slice-aggregate-fold-in-2 c = search needs
-
-slice-aggregate-fold-in-3 : tie.Need-slice-aggregate-fold-in-3
-slice-aggregate-fold-in-3 c = search needs
-
-slice-aggregate-fold-in-4 : tie.Need-slice-aggregate-fold-in-4
-slice-aggregate-fold-in-4 c = search needs
-
--- ---- the empty table of four
-abbrev none : ℕ → Memory
-none n = indexedOf (empty n) (0 ∷ 1 ∷ 2 ∷ 3 ∷ []) (replicate 256 0) (replicate 4 (pos 0)) (replicate 4 0)
-
-nothing : (n : ℕ) → Gathered [] n (none n)
-nothing n = gather-none n (none n) (four-memory n)
-
--- ---- the amount, as the code passes it on
-abbrev amount : tie.Start → ℤ
-amount s = toZ w64 (ofZ w64 (s .args .amount))
-
-amount-is : (s : tie.Start) → amount s ≡ s .args .amount
-amount-is s = toZ-ofZ (s .fits .amount)
-
-amount-mag : (s : tie.Start) → mag (amount s) < 2 ^ 42
-amount-mag s = rw (amount-is s) (s .pre .3)
-
-fold-in-requires : tie.Need-fold-in-requires
-fold-in-requires c κs =
-    let s = c .before .before .before .before .before .before .before .before in
-    let n = s .args .head .variables in
-    let f = s .args .f .now in
-    let g = nothing n in (
-      four-kept n (s .pre .0 .variables-bound),
-      g .is-formed,
-      s .pre .2,
-      gather-fits [] n (none n) g f (amount s) (omega arith) (amount-mag s),
-      gather-room [] n (none n) g f (amount s) (omega arith) (amount-mag s),
-    )
-
-slice-aggregate-replace : tie.Need-slice-aggregate-replace
-slice-aggregate-replace c = search needs
-
-slice-aggregate-replace-2 : tie.Need-slice-aggregate-replace-2
-slice-aggregate-replace-2 c = search needs
-
-slice-aggregate-replace-3 : tie.Need-slice-aggregate-replace-3
-slice-aggregate-replace-3 c = search needs
-
-slice-aggregate-replace-4 : tie.Need-slice-aggregate-replace-4
-slice-aggregate-replace-4 c = search needs
-
--- ---- the table with the weighted polynomial
-abbrev start : tie.After-fold-in → tie.Start
-start c = c .before .before .before .before .before .before .before .before .before
 
 abbrev old : tie.Start → Memory
 old s =
     let a = s .args in
     indexedOf (a .head) (a .index .now) (a .terms .now) (a .weights .now) (a .counts .now)
 
-abbrev new : tie.After-fold-in → Memory
-new c =
-    let r = c .fold-in in
-    indexedOf (r .result) (r .last .1 .0) (r .last .1 .1 .0) (r .last .1 .1 .1 .0) (r .last .1 .1 .1 .1 .0)
+is-old : (s : tie.Start) → T (formed 128 (old s))
+is-old s = well-formed (old s) (s .pre .1)
 
-gathered : (c : tie.After-fold-in) → Gathered (line (start c .args .f .now) (amount (start c)) ∷ []) (start c .args .head .variables) (new c)
-gathered c =
+returns : tie.Need-returns
+returns c =
+    let s = c .before .before .before .before .before in
+    (nothing-added (old s) (s .args .f .now) (s .args .amount) (s .pre .1) (c .if1 .taken), s .pre .0)
+
+-- ---- the polynomial is not 0
+abbrev begun : tie.Else1 → tie.Start
+begun c = c .before .before .before .before .before
+
+not-empty : (c : tie.Else1) → T (some (begun c .args .f .now))
+not-empty c = some-of (begun c .args .f .now) (c .if1 .left)
+
+look-up-requires : tie.Need-look-up-requires
+look-up-requires c κs =
+    let k = c .before .before .before .before in
+    let s = begun k in
+    let e = s .pre .0 .counts-length in (
+      subst (λ (n : ℕ). Kept n (s .args .head) (s .args .index .now) (s .args .terms .now) (s .args .weights .now) (s .args .counts .now)) (sym e) (s .pre .0),
+      subst (λ (n : ℕ). T (formed n (old s))) (sym e) (is-old s),
+      not-empty k,
+    )
+
+-- ---- its weight before and afterwards
+abbrev start : tie.After-look-up → tie.Start
+start c = begun (c .before .before .before .before .before)
+
+abbrev held : tie.Start → ℤ
+held s = weight (linesOf (old s)) (s .args .f .now)
+
+held-mag : (s : tie.Start) → mag (held s) ≤ limit
+held-mag s = in-range-mag (held s) (fit-weight (linesOf (old s)) (table-ordered 128 (old s) (is-old s)) (weights-bound (old s) (s .pre .1)) (s .args .f .now))
+
+found-weight : (c : tie.After-look-up) → toZ w64 (ofZ w64 (c .look-up .result .weight)) ≡ held (start c)
+found-weight c =
     let s = start c in
-    let n = s .args .head .variables in
-    gather-more [] n (none n) (nothing n) (s .args .f .now) (amount s) (omega arith) (amount-mag s) (new c) (s .pre .2) (c .fold-in .ensures .0)
+    ap (λ (z : ℤ). toZ w64 (ofZ w64 z)) (c .look-up .ensures .1) ∙ read-back (held s) (omega (arith, held-mag s))
 
-replace-requires : tie.Need-replace-requires
-replace-requires c κs =
-    let f = c .before .before .before .before .before .before .before .before .before .before .before .before in
-    let s = start f in
-    let g = gathered f in
-    (s .pre .0, s .pre .1, f .fold-in .ensures .1, g .is-formed, g .variables-are, gather-small (line (s .args .f .now) (amount s) ∷ []) (s .args .head .variables) (new f) g (omega arith))
+amount-is : (s : tie.Start) → toZ w64 (ofZ w64 (s .args .amount)) ≡ s .args .amount
+amount-is s = toZ-ofZ (s .fits .amount)
+
+add-sum : tie.Need-add-sum
+add-sum c =
+    let s = start (c .before) in
+    sum-fits _ _ (held s) (s .args .amount) (found-weight (c .before)) (amount-is s) (held-mag s) (omega (arith, s .pre .3))
+
+cast-judge : tie.Need-cast-judge
+cast-judge c = search needs
+
+slice-aggregate-judge : tie.Need-slice-aggregate-judge
+slice-aggregate-judge c = search needs
+
+slice-aggregate-judge-2 : tie.Need-slice-aggregate-judge-2
+slice-aggregate-judge-2 c = search needs
+
+judge-requires : tie.Need-judge-requires
+judge-requires c κs =
+    let s = start (c .before .before .before .before) in
+    formed-parts 128 (old s) (is-old s) .room
+
+-- ---- the verdict on them
+abbrev found : tie.After-judge → tie.After-look-up
+found c = c .before .before .before .before .before
+
+abbrev lines : tie.Start → List Line
+lines s = line (s .args .f .now) (s .args .amount) ∷ []
+
+abbrev after : tie.Start → ℤ
+after s = held s +ℤ s .args .amount
+
+judged : (c : tie.After-judge) → (let s = start (found c) in Judged (old s) (lines s) (held s ∷ []) (after s ∷ []) (c .judge .result))
+unfolding weightsBefore weightsAfter
+judged c =
+    let w = found c in
+    let s = start w in
+    let e = sum-is _ _ (held s) (s .args .amount) (found-weight w) (amount-is s) (held-mag s) (omega (arith, s .pre .3)) in
+    record {
+      well = s .pre .1;
+      in-order = (not-empty (w .before .before .before .before .before), (s .pre .4, (tt, tt)));
+      before-are = refl;
+      after-are = refl;
+      verdict-is = c .judge .ensures ∙ ap₂ (λ (b a : ℤ). verdictOf (leb (s .args .head .lines + countHeld (a ∷ [])) (128 + countHeld (b ∷ []))) (allInRange (a ∷ []))) (found-weight w) e;
+    }
+
+enum-told : tie.Need-enum-told
+enum-told c = search needs
 
 same-length : tie.Need-same-length
 same-length c = search needs
@@ -112,33 +131,84 @@ same-length-3 c = search needs
 same-length-4 : tie.Need-same-length-4
 same-length-4 c = search needs
 
-returns : tie.Need-returns
-returns c =
-    let r = c .before .before .before .before .before .before .before in
-    let f = r .before .before .before .before .before .before .before .before .before .before .before .before .before in
-    let s = start f in
-    let p = s .args .f .now in
-    let e : replaced (linesOf (new f)) (old s) ≡ replaced (line p (s .args .amount) ∷ []) (old s) =
-    gather-replaced (line p (amount s) ∷ []) (s .args .head .variables) (new f) (gathered f) (old s) (s .pre .1)
-    ∙ ap (λ (w : ℤ). replaced (line p w ∷ []) (old s)) (amount-is s) in
-    (r .replace .ensures .0 ∙ e, r .replace .ensures .1)
+returns-2 : tie.Need-returns-2
+returns-2 c =
+    let j = c .before in
+    let s = start (found j) in
+    (refused (old s) (lines s) (held s ∷ []) (after s ∷ []) (j .judge .result) (judged j) (c .match .keys2), s .pre .0)
+
+-- ---- the polynomial folded in
+abbrev told : tie.After-enum-told → tie.After-judge
+told d = d .before .before
+
+room-left : (d : tie.After-enum-told) → (let s = start (found (told d)) in length (add (s .args .f .now) (s .args .amount) (linesOf (old s))) ≤ 128)
+unfolding addAll
+room-left d =
+    let j = told d in
+    let s = start (found j) in
+    judged-few (old s) (lines s) (held s ∷ []) (after s ∷ []) (j .judge .result) (judged j) (d .enum-told .given .1)
+
+fold-at-requires : tie.Need-fold-at-requires
+fold-at-requires c κs =
+    let d = c .before .before .before .before in
+    let w = found (told d) in
+    let s = start w in
+    let a = s .args in
+    let v = toZ w64 (ofZ w64 (a .amount)) in
+    fold-asks (length (a .counts .now)) 128 (s .pre .0 .counts-length) (a .head) (a .index .now) (a .terms .now) (a .weights .now) (a .counts .now)
+    (w .look-up .result .at) (toZ w64 (ofZ w64 (w .look-up .result .weight))) (a .f .now) v (s .pre .0) (is-old s) (s .pre .2)
+    (not-empty (w .before .before .before .before .before)) (w .look-up .ensures .0) (found-weight w)
+    (rw (amount-is s) (omega (arith, mag-add (held s) (a .amount), held-mag s, s .pre .3))) (rw (amount-is s) (room-left d))
+
+same-length-5 : tie.Need-same-length-5
+same-length-5 c = search needs
+
+same-length-6 : tie.Need-same-length-6
+same-length-6 c = search needs
+
+same-length-7 : tie.Need-same-length-7
+same-length-7 c = search needs
+
+same-length-8 : tie.Need-same-length-8
+same-length-8 c = search needs
+
+returns-3 : tie.Need-returns-3
+unfolding addAll
+returns-3 c =
+    let t = c .before .before .before .before .before .before .before in
+    let d = t .before .before .before .before .before in
+    let j = told d in
+    let s = start (found j) in
+    let a = s .args in
+    let r = t .fold-at in
+    let g = fold-gives (length (a .counts .now)) 128 (s .pre .0 .counts-length) (r .result) (r .last .1 .0) (r .last .1 .1 .0) (r .last .1 .1 .1 .0) (r .last .1 .1 .1 .1 .0)
+    (a .head .variables) (add (a .f .now) (toZ w64 (ofZ w64 (a .amount))) (linesOf (old s))) (r .ensures) in (
+      replaced-is (old s) (lines s) (held s ∷ []) (after s ∷ []) (j .judge .result) (judged j) (d .enum-told .given .1)
+          (indexedOf (r .result) (r .last .1 .0) (r .last .1 .1 .0) (r .last .1 .1 .1 .0) (r .last .1 .1 .1 .1 .0))
+          (g .0 ∙ ap (λ (w : ℤ). imageOf 128 (a .head .variables) (add (a .f .now) w (linesOf (old s)))) (amount-is s)),
+      g .1,
+    )
 
 pub add-spec : {M : Type 1} → statement M
 add-spec =
     tie.close
     (tie.spec
-    slice-aggregate-fold-in
-    slice-aggregate-fold-in-2
-    slice-aggregate-fold-in-3
-    slice-aggregate-fold-in-4
-    fold-in-requires
-    slice-aggregate-replace
-    slice-aggregate-replace-2
-    slice-aggregate-replace-3
-    slice-aggregate-replace-4
-    replace-requires
+    returns
+    look-up-requires
+    add-sum
+    cast-judge
+    slice-aggregate-judge
+    slice-aggregate-judge-2
+    judge-requires
+    enum-told
     same-length
     same-length-2
     same-length-3
     same-length-4
-    returns)
+    returns-2
+    fold-at-requires
+    same-length-5
+    same-length-6
+    same-length-7
+    same-length-8
+    returns-3)

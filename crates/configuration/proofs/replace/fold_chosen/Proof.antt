@@ -193,14 +193,14 @@ sub-at c =
     let a = at-line k in
     omega (arith, moved-place k, counted a .0, counted a .1)
 
+row-requires : tie.Need-row-requires Inv-loop μ-loop
+row-requires c κs = here (c .before .before .before .before .before .before .before .before) .in-terms
+
 mul-fold-at : tie.Need-mul-fold-at Inv-loop μ-loop
 mul-fold-at c = search needs
 
 shared-slice-copy-out-fold-at : tie.Need-shared-slice-copy-out-fold-at Inv-loop μ-loop
-shared-slice-copy-out-fold-at c = in-new (c .before .before .before .before .before .before .before .before .before .before .before) .3
-
-row-requires : tie.Need-row-requires Inv-loop μ-loop
-row-requires c κs = here (c .before .before .before .before .before .before .before .before .before) .in-terms
+shared-slice-copy-out-fold-at c = in-new (c .before .before .before .before .before .before .before .before .before .before .before .before) .3
 
 mul-fold-at-2 : tie.Need-mul-fold-at-2 Inv-loop μ-loop
 mul-fold-at-2 c = omega (arith, here (c .before .before .before .before .before .before .before .before .before .before) .low)
@@ -220,16 +220,16 @@ fold-at-requires c κs =
     let l = a .before .loop in
     let g = folding a in
     let i = in-new a in
-    let f = c .before .row .result .now in
+    let f = c .before .before .row .result .now in
     let w = toZ w64 (ofZ w64 (getD (start a .args .new-weights .now) (r .row-at .result) (pos 0))) in
     let old-weight = getD (start a .args .before .now) (place a) (pos 0) in
     let at = getD (start a .args .places .now) (place a) 0 + l .held .lines - start a .args .head .lines in
-    let e : f ≡ polynomial a = c .before .row .ensures ∙ here r .terms-are in
+    let e : f ≡ polynomial a = c .before .before .row .ensures ∙ here r .terms-are in
     let d : w ≡ amount a = read-back (getD (start a .args .new-weights .now) (r .row-at .result) (pos 0)) (c .fold-at-arg6 .given) ∙ here r .weight-is in
     let q : T (isPolynomial (l .held .variables) f) =
     subst (λ (n : ℕ). T (isPolynomial n f)) (sym (g .variables-are)) (subst (λ (p : List ℕ). T (isPolynomial ((old a) .variables) p)) (sym e) (is-polynomial a)) in
     let x : at ≡ placeOf (polynomial a) (linesOf (table a)) = omega (arith, moved-place k, counted a .0, counted a .1) in
-    let y : toZ w64 (ofZ w64 old-weight) ≡ weight (linesOf (table a)) (polynomial a) = read-back old-weight (c .before .before .fold-at-arg5 .given) ∙ held-weight k in
+    let y : toZ w64 (ofZ w64 old-weight) ≡ weight (linesOf (table a)) (polynomial a) = read-back old-weight (c .before .fold-at-arg5 .given) ∙ held-weight k in
     fold-asks (length (l .counts)) 128 (l .inv .2 .counts-length) (l .held) (l .index) (l .terms) (l .weights) (l .counts) at (toZ w64 (ofZ w64 old-weight)) f w (l .inv .2) (g .is-formed) q
     (folding-some g (i .0) (i .1) f w (found a f w e d) (is-chosen k))
     (x ∙ ap (λ (p : List ℕ). placeOf p (linesOf (table a))) (sym e)) (y ∙ ap (weight (linesOf (table a))) (sym e))
@@ -255,10 +255,10 @@ loop-again c =
     (λ w.
     let k : tie.Then1 Inv-loop μ-loop = record { before = c .before; if1 = w .0 } in
     let r : tie.After-row-at Inv-loop μ-loop = record { before = k; row-at = w .1 } in
-    let f = w .11 .result .now in
+    let f = w .10 .result .now in
     let x = getD (start a .args .new-weights .now) (r .row-at .result) (pos 0) in
     let u = toZ w64 (ofZ w64 x) in
-    let e : f ≡ polynomial a = w .11 .ensures ∙ here r .terms-are in
+    let e : f ≡ polynomial a = w .10 .ensures ∙ here r .terms-are in
     let d : u ≡ amount a = read-back x (w .12 .given) ∙ here r .weight-is in
     let z = w .13 in
     let t = fold-gives (length (l .counts)) 128 (l .inv .2 .counts-length) (z .result) (z .last .1 .0) (z .last .1 .1 .0) (z .last .1 .1 .1 .0) (z .last .1 .1 .1 .1 .0)
@@ -309,9 +309,9 @@ fold-chosen-spec =
     add-at
     cast-at-2
     sub-at
+    row-requires
     mul-fold-at
     shared-slice-copy-out-fold-at
-    row-requires
     mul-fold-at-2
     shared-slice-copy-out-fold-at-2
     fold-at-requires

@@ -1,17 +1,17 @@
 -- `replace` meets its contract: the outcome is judged, and only then the table of four folded in.
-use mathlib.Core.Path.{sym, _∙_}
+use mathlib.Core.Path.{refl, sym, _∙_}
 use mathlib.Core.List.{List}
 use Prim.Native.Nat.{_≤_}
 use lib.IntN.{ℤ}
 use lib.ListN.{length, take}
 use lib.Seq.{length-take-le}
 use borrow.Author.Needs.{needs}
-use Rattle.configuration.specs.Memory.{Memory, linesOf}
+use Rattle.configuration.specs.Memory.{Memory, readLines, linesOf}
 use Rattle.configuration.specs.Index.{indexedOf}
 use Rattle.configuration.specs.Replacement.{weightsBefore, weightsAfter}
 use Rattle.configuration.specs.ReplacementLaws.{length-before, length-after}
 use Rattle.configuration.specs.MemoryLaws.{well-formed, formed-parts}
-use Rattle.configuration.proofs.Replacements.{table-length, prefix-fits, Judged, refused, passes, replaced-is}
+use Rattle.configuration.proofs.Replacements.{table-ordered, table-length, prefix-fits, Judged, refused, passes, replaced-is, nothing-replaced}
 use Rattle.configuration.proofs.replace.replace.Statement.{statement}
 use Rattle.configuration.proofs.replace.replace.Tie as tie
 
@@ -26,6 +26,13 @@ new s =
     let a = s .args in
     indexedOf (a .new) (a .new-index .now) (a .new-terms .now) (a .new-weights .now) (a .new-counts .now)
 
+-- nothing is to be folded in
+returns : tie.Need-returns
+unfolding readLines
+returns c =
+    let s = c .before .before .before .before .before .before .before .before in
+    (nothing-replaced (old s) (s .pre .1) ∙ rw (c .if1 .taken) refl, s .pre .0)
+
 weigh-requires : tie.Need-weigh-requires
 weigh-requires c κs = search needs
 
@@ -37,7 +44,7 @@ cast-judge c = search needs
 
 -- ---- the weights that are found
 abbrev start : tie.After-weigh → tie.Start
-start c = c .before .before .before .before .before .before .before .before .before .before .before
+start c = c .before .before .before .before .before .before .before .before .before .before .before .before .before
 
 abbrev before : tie.After-weigh → List ℤ
 before c = take ((new (start c)) .lines) (c .weigh .result .before)
@@ -81,11 +88,11 @@ enum-told c = search needs
 abbrev found : tie.After-judge → tie.After-weigh
 found j = j .before .before .before .before .before .before .before .before
 
-judged : (j : tie.After-judge) → Judged (old (start (found j))) (new (start (found j))) (before (found j)) (after (found j)) (j .judge .result)
+judged : (j : tie.After-judge) → Judged (old (start (found j))) (linesOf (new (start (found j)))) (before (found j)) (after (found j)) (j .judge .result)
 judged j =
     let w = found j in
     let s = start w in
-    record { well = s .pre .1; new-formed = s .pre .3; before-are = w .weigh .ensures .1 .0; after-are = w .weigh .ensures .1 .1; verdict-is = j .judge .ensures }
+    record { well = s .pre .1; in-order = table-ordered 4 (new s) (s .pre .3); before-are = w .weigh .ensures .1 .0; after-are = w .weigh .ensures .1 .1; verdict-is = j .judge .ensures }
 
 same-length : tie.Need-same-length
 same-length c = search needs
@@ -99,12 +106,12 @@ same-length-3 c = search needs
 same-length-4 : tie.Need-same-length-4
 same-length-4 c = search needs
 
-returns : tie.Need-returns
-returns c =
+returns-2 : tie.Need-returns-2
+returns-2 c =
     let j = c .before in
     let w = found j in
     let s = start w in
-    (refused (old s) (new s) (before w) (after w) (j .judge .result) (judged j) (c .match .keys2), s .pre .0)
+    (refused (old s) (linesOf (new s)) (before w) (after w) (j .judge .result) (judged j) (c .match .keys2), s .pre .0)
 
 array-share-prefix-before-2 : tie.Need-array-share-prefix-before-2
 array-share-prefix-before-2 c = before-fits (found (c .before .before .before .before .before .before))
@@ -124,7 +131,7 @@ fold-table-requires c κs =
     let j = d .before .before in
     let w = found j in
     let s = start w in
-    let p = passes (old s) (new s) (before w) (after w) (j .judge .result) (judged j) (d .enum-told .given .1) (s .pre .4) in
+    let p = passes (old s) (new s) (before w) (after w) (j .judge .result) (judged j) (d .enum-told .given .1) (s .pre .3) (s .pre .4) in
     (s .pre .0, p .old-formed, s .pre .2, s .pre .3, s .pre .4, w .weigh .ensures .0, w .weigh .ensures .1 .0, p .weights-are, p .in-range, p .few)
 
 same-length-5 : tie.Need-same-length-5
@@ -139,15 +146,15 @@ same-length-7 c = search needs
 same-length-8 : tie.Need-same-length-8
 same-length-8 c = search needs
 
-returns-2 : tie.Need-returns-2
-returns-2 c =
+returns-3 : tie.Need-returns-3
+returns-3 c =
     let t = c .before .before .before .before .before .before .before in
     let d = t .before .before .before .before .before .before .before in
     let j = d .before .before in
     let w = found j in
     let s = start w in
     let r = t .fold-table in (
-      replaced-is (old s) (new s) (before w) (after w) (j .judge .result) (judged j) (d .enum-told .given .1)
+      replaced-is (old s) (linesOf (new s)) (before w) (after w) (j .judge .result) (judged j) (d .enum-told .given .1)
           (indexedOf (r .result) (r .last .1 .0) (r .last .1 .1 .0) (r .last .1 .1 .1 .0) (r .last .1 .1 .1 .1 .0)) (r .ensures .0),
       r .ensures .1,
     )
@@ -156,6 +163,7 @@ pub replace-spec : {M : Type 1} → statement M
 replace-spec =
     tie.close
     (tie.spec
+    returns
     weigh-requires
     cast-lines
     cast-judge
@@ -169,7 +177,7 @@ replace-spec =
     same-length-2
     same-length-3
     same-length-4
-    returns
+    returns-2
     array-share-prefix-before-2
     slice-aggregate-fold-table
     array-share-prefix-after-2
@@ -179,4 +187,4 @@ replace-spec =
     same-length-6
     same-length-7
     same-length-8
-    returns-2)
+    returns-3)

@@ -18,11 +18,11 @@ use Rattle.configuration.proofs.table.find.Statement.{statement}
 use Rattle.configuration.proofs.table.find.Tie as tie
 
 abbrev Inv-loop : tie.InvT-loop
-Inv-loop index terms weights counts f first high₀ low₀ middle₀ high low middle =
-    Between f high₀ (arranged 64 index terms) (arranged 1 index weights) (arranged 1 index counts) low high × (low ≤ middle) × (low < high → middle < high)
+Inv-loop index terms weights counts f first high₀ low₀ middle₀ reach₀ high low middle reach =
+    Between f high₀ (arranged 64 index terms) (arranged 1 index weights) (arranged 1 index counts) low high × (low ≤ middle) × (low < high → middle < high) × (reach ≤ 127)
 
 abbrev μ-loop : tie.MeasureT-loop
-μ-loop index terms weights counts f first high₀ low₀ middle₀ high low middle = high - low
+μ-loop index terms weights counts f first high₀ low₀ middle₀ reach₀ high low middle reach = high - low
 
 -- the start, and the turn that a comparison belongs to
 abbrev begun : tie.After-ahead Inv-loop μ-loop → tie.Start Inv-loop μ-loop
@@ -89,7 +89,7 @@ cast-high c = search needs
 ahead-requires : tie.Need-ahead-requires Inv-loop μ-loop
 ahead-requires c κs =
     let s = c .before .before .before .before .before .before .before .before in
-    (indexed s, falling (s .pre .0) (s .pre .1))
+    (indexed s, falling (s .pre .0) (s .pre .1), c .before .key .ensures .1)
 
 loop-holds : tie.Need-loop-holds Inv-loop μ-loop
 loop-holds c =
@@ -98,6 +98,7 @@ loop-holds c =
           (λ i. c .before .before .before .before .before .before .before .shared-slice-known2 .given i .fits)),
       omega arith,
       λ h. h,
+      omega arith,
     )
 
 mul-order-at : tie.Need-mul-order-at Inv-loop μ-loop
@@ -141,17 +142,29 @@ enum-told-3 c = search needs
 add-low : tie.Need-add-low Inv-loop μ-loop
 add-low c = let k = turn (c .before .before) in omega (arith, in-table k, indexed (begun (k .before .before)))
 
-sub-middle : tie.Need-sub-middle Inv-loop μ-loop
-sub-middle c = let b = narrowed (c .before .before) .0 in omega (arith, b .from, b .to)
+sub-least : tie.Need-sub-least Inv-loop μ-loop
+sub-least c = let b = narrowed (c .before .before) .0 in omega (arith, b .from, b .to)
+
+least-requires : tie.Need-least-requires Inv-loop μ-loop
+least-requires c κs = search needs
 
 add-middle : tie.Need-add-middle Inv-loop μ-loop
 add-middle c = search needs
 
+mul-least : tie.Need-mul-least Inv-loop μ-loop
+mul-least c = search needs
+
+add-least : tie.Need-add-least Inv-loop μ-loop
+add-least c = search needs
+
+least-requires-2 : tie.Need-least-requires-2 Inv-loop μ-loop
+least-requires-2 c κs = search needs
+
 loop-less : tie.Need-loop-less Inv-loop μ-loop
-loop-less c = narrowed (c .before .before) .1
+loop-less c = narrowed (c .before .before .before .before) .1
 
 loop-again : tie.Need-loop-again Inv-loop μ-loop
-loop-again c = (narrowed (c .before .before) .0, omega arith, λ h. omega arith)
+loop-again c = (narrowed (c .before .before .before .before) .0, omega arith, λ h. omega (arith, c .before .least .ensures), omega (arith, c .least2 .ensures))
 
 returns-3 : tie.Need-returns-3 Inv-loop μ-loop
 returns-3 c = missing _ _ _ _ _ _ _ (c .before .loop .inv .0) (c .loop-test .left)
@@ -176,8 +189,12 @@ find-spec =
     returns-2
     enum-told-3
     add-low
-    sub-middle
+    sub-least
+    least-requires
     add-middle
+    mul-least
+    add-least
+    least-requires-2
     loop-less
     loop-again
     returns-3)

@@ -11,7 +11,7 @@ use Rattle.configuration.specs.Replacement.{within, replacementOf, replaced}
 use Rattle.configuration.specs.declared.Verdict.{Verdict}
 use Rattle.configuration.specs.ReplacementLaws.{Says}
 use Rattle.refusal.specs.declared.Reason.the-variants.{TooManyLines, WeightTooLarge}
-use Rattle.problem.proofs.Folds.{small-weight, judged, kept, done}
+use Rattle.problem.proofs.Folds.{small-weight, not-zero, judged, kept, done}
 use Rattle.problem.proofs.entry.fold.Statement.{statement}
 use Rattle.problem.proofs.entry.fold.Tie as tie
 
@@ -42,7 +42,7 @@ told c v e =
 add-requires : tie.Need-add-requires
 add-requires c κs =
     let s = c .before .before .before .before .before .before .before .before .before in
-    (s .pre .0 .kept, s .pre .0 .well, s .pre .1, rw (toZ-ofZ (s .fits .weight)) (small-weight (s .args .weight) (s .pre .4)))
+    (s .pre .0 .kept, s .pre .0 .well, s .pre .1, rw (toZ-ofZ (s .fits .weight)) (small-weight (s .args .weight) (s .pre .4)), rw (toZ-ofZ (s .fits .weight)) (not-zero (s .args .weight) (s .pre .4)))
 
 enum-told : tie.Need-enum-told
 enum-told c = search needs
