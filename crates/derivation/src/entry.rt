@@ -7,6 +7,8 @@ use calculus::step::step;
 use configuration::Head;
 use configuration::form::none_negative;
 use configuration::table::weight_of;
+use polynomial::Polynomial;
+use polynomial::front;
 use record::Amount;
 use record::read_amount;
 use refusal::Reason;
@@ -14,12 +16,14 @@ use walk::Turn;
 use walk::add_term;
 ghost use mathlib.Core.Path.{_≡_};
 ghost use mathlib.Core.Bool.{true, _&&_, not};
-ghost use mathlib.Core.List.{List};
+ghost use mathlib.Core.List.{List, [], _∷_};
 ghost use Prim.Native.Nat.{ℕ, _+_, _≤_, _<_};
 ghost use lib.IntN.{ℤ};
 ghost use lib.Dec.{T, eqb};
 ghost use lib.ListN.{length, take};
-ghost use Rattle.configuration.specs.Configuration.{isPolynomial};
+ghost use Rattle.configuration.specs.Configuration.{weight, isPolynomial};
+ghost use Rattle.configuration.specs.Memory.{formed};
+ghost use Rattle.configuration.specs.Index.{indexedOf, linesBy, Kept};
 ghost use Rattle.walk.specs.Walk.{stopOf, after};
 ghost use Rattle.derivation.specs.Derivation.{claimFits, onMode, onTerm, onChoice, onStep, onClaim};
 ghost use Rattle.derivation.specs.Held.{progressOf, Ready};
@@ -238,6 +242,22 @@ fn closed_with(p: Progress, claim: i64) -> Step
     }
 }
 
+// The weight of the polynomial 1.
+fn weight_of_one(head: Head, index: &[u64], terms: &[u32], weights: &[i64], counts: &[u32]) -> i64
+    requires { ⌜ Kept (length (now counts)) head (now index) (now terms) (now weights) (now counts) × T (formed (length (now counts)) (indexedOf head (now index) (now terms) (now weights) (now counts))) ⌝ }
+    ensures { λ r. ⌜ r ≡ weight (linesBy head (now (index .entry)) (now (terms .entry)) (now (weights .entry)) (now (counts .entry))) (0 ∷ []) ⌝ }
+{
+    let one = Polynomial::one();
+    weight_of(
+        head,
+        index,
+        terms,
+        weights,
+        counts,
+        front(&one.terms, one.count),
+    )
+}
+
 // B: the claim is at most the weight of the polynomial 1, and no line is negative.
 pub fn on_claim(
     bytes: &[u8],
@@ -266,8 +286,7 @@ pub fn on_claim(
     if !none_negative(weights) {
         return refused(p, Reason::NegativeLine);
     }
-    let one = [0u32];
-    if weight_of(head, index, terms, weights, counts, &one) < claim {
+    if weight_of_one(head, index, terms, weights, counts) < claim {
         return refused(p, Reason::ClaimTooHigh);
     }
     closed_with(p, claim)

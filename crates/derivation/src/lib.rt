@@ -42,20 +42,21 @@ pub struct Report {
     pub answer: Answer,
 }
 
-// How far a check has come: where the next record begins, how many are accepted, whether N or Z was among them, the mode,
-// whether f is set, how many terms f and the work polynomial have, the head, whether B was among them, the claim. The terms of
-// f and of the work polynomial stand at the fronts of two areas of 64.
+// How far a check has come: where the next record begins, how many terms f and the work polynomial have, the head, how many
+// records are accepted, the claim, whether N or Z was among them, the mode, whether f is set, whether B was among them. The
+// terms of f and of the work polynomial stand at the fronts of two areas of 64. The small fields stand together and last, since
+// this goes by value from record to record.
 pub struct Progress {
     pub at: usize,
-    pub records: u64,
-    pub started: bool,
-    pub mode: Mode,
-    pub chosen: bool,
     pub first: usize,
     pub work: usize,
     pub head: Head,
-    pub closed: bool,
+    pub records: u64,
     pub claim: i64,
+    pub started: bool,
+    pub mode: Mode,
+    pub chosen: bool,
+    pub closed: bool,
 }
 
 // The progress that one record leaves, and the answer for it. A refused record leaves all as it was.

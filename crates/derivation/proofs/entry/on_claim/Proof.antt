@@ -102,12 +102,12 @@ signs g =
     (s .pre .1 .kept) (well-formed (memory s) (s .pre .1 .well))
 
 -- where the weight of 1 is known
-none : (w : tie.After-weight-of) → anyNegative (linesOf (memory (came (w .before .before .before .before .before .before)))) ≡ false
-none w = let g = w .before .before .before in not-true (anyNegative _) (sym (signs g) ∙ not-false (g .none-negative .result) (w .before .before .if3 .left))
+none : (w : tie.After-weight-of-one) → anyNegative (linesOf (memory (came (w .before .before .before .before .before)))) ≡ false
+none w = let g = w .before .before in not-true (anyNegative _) (sym (signs g) ∙ not-false (g .none-negative .result) (w .before .if3 .left))
 
-weighed : (w : tie.After-weight-of)
-    → toZ w64 (ofZ w64 (w .weight-of .result)) ≡ weight (linesOf (memory (came (w .before .before .before .before .before .before)))) (0 ∷ [])
-weighed w = toZ-ofZ {w = w64} {z = w .weight-of .result} (record { sfits = search needs }) ∙ w .weight-of .ensures
+weighed : (w : tie.After-weight-of-one)
+    → toZ w64 (ofZ w64 (w .weight-of-one .result)) ≡ weight (linesOf (memory (came (w .before .before .before .before .before)))) (0 ∷ [])
+weighed w = toZ-ofZ {w = w64} {z = w .weight-of-one .result} (record { sfits = search needs }) ∙ w .weight-of-one .ensures
 
 is-idle-requires : tie.Need-is-idle-requires
 is-idle-requires c κs = search needs
@@ -184,15 +184,12 @@ returns-4 c =
     (claim-negative (bytes s) p (now (a .first)) (now (a .work)) (now (a .index)) (now (a .terms)) (now (a .weights)) (now (a .counts))
     (idle (f .before .before .before .before .before)) (claim f) (read f) (fits g) d)
 
-slice-aggregate-weight-of : tie.Need-slice-aggregate-weight-of
-slice-aggregate-weight-of c = search needs
-
-weight-of-requires : tie.Need-weight-of-requires
-weight-of-requires c κs =
-    let s = came (c .before .before .before .before .before) in
+weight-of-one-requires : tie.Need-weight-of-one-requires
+weight-of-one-requires c κs =
+    let s = came (c .before .before .before .before) in
     let a = s .args in
     let t = table-kept (a .p .head) (now (a .index)) (now (a .terms)) (now (a .weights)) (now (a .counts)) (s .pre .1 .kept) (s .pre .1 .well) in
-    (t .0, t .1, tt)
+    (t .0, t .1)
 
 refused-requires-5 : tie.Need-refused-requires-5
 refused-requires-5 c κs = search needs
@@ -200,7 +197,7 @@ refused-requires-5 c κs = search needs
 returns-5 : tie.Need-returns-5
 returns-5 c =
     let w = c .before .before in
-    let g = w .before .before .before in
+    let g = w .before .before in
     let f = g .before .before .before in
     let s = came f in
     let a = s .args in
@@ -213,7 +210,7 @@ returns-5 c =
 
 closed-with-requires : tie.Need-closed-with-requires
 closed-with-requires c κs =
-    let f = c .before .before .before .before .before .before .before in
+    let f = c .before .before .before .before .before .before in
     let s = came f in
     let p = s .args .p in
     let h : p .at + 1 + 8 ≤ length (bytes s) = leb→le (p .at + 1 + 8) (length (bytes s)) (of-true (amount-whole (bytes s) (p .at + 1) (claim f) (read f) .0)) in
@@ -223,7 +220,7 @@ closed-with-requires c κs =
 returns-6 : tie.Need-returns-6
 returns-6 c =
     let w = c .before .before in
-    let g = w .before .before .before in
+    let g = w .before .before in
     let f = g .before .before .before in
     let s = came f in
     let a = s .args in
@@ -254,8 +251,7 @@ on-claim-spec =
     none-negative-requires
     refused-requires-4
     returns-4
-    slice-aggregate-weight-of
-    weight-of-requires
+    weight-of-one-requires
     refused-requires-5
     returns-5
     closed-with-requires
