@@ -21,7 +21,7 @@ use Rattle.run.specs.Boolean.{bool-ext, is-true, of-true}
 use Rattle.configuration.specs.Weight.{limit, isZero, allInRange}
 use Rattle.configuration.specs.Configuration.{Line, line, some, weight, add, addAll, Behind, Ordered, Every, placeOf, isPolynomial, linesFit}
 use Rattle.configuration.specs.Memory.{Memory, readLines, linesOf, rows, weightsOf, countsOf, imageOf, formed, wellFormed}
-use Rattle.configuration.specs.Index.{rowOf, arranged, indexedOf, linesBy, Kept}
+use Rattle.configuration.specs.Index.{rowOf, keyIn, arranged, indexedOf, linesBy, firstKey, Kept}
 use Rattle.configuration.specs.Replacement.{taken, unless, Small, Replacement, after, replaced, replacementOf, weightsBefore, weightsAfter, placesIn, countHeld, chosen, Placed, shifted, Room, verdictOf}
 use Rattle.configuration.specs.Sums.{zero-is}
 use Rattle.configuration.specs.ConfigurationLaws.{add-ordered, add-every, fit-ordered, fit-every, fits, all-fit}
@@ -37,6 +37,7 @@ use Rattle.configuration.proofs.Verdict.{the-type}
 use Rattle.configuration.proofs.Areas.{read-back, is-zero}
 use Rattle.configuration.proofs.Forms.{rowAt, laid-short}
 use Rattle.configuration.proofs.Tables.{row-below}
+use Rattle.configuration.proofs.Searches.{line-is, line-keyed}
 
 abbrev pub none : Line
 none = line [] (pos 0)
@@ -125,6 +126,10 @@ module _ (c : ℕ) (h : Head) (is ts : List ℕ) (ws : List ℤ) (cs : List ℕ)
   pub in-index : i < length is
   in-index = omega (arith, k .entries, formed-parts c (indexedOf h is ts ws cs) t .room)
 
+  -- the entry has the key of the line's first term
+  pub entry-key : keyIn (getD is i 0) ≡ firstKey (rowAt (arranged 64 is ts) (arranged 1 is cs) i)
+  entry-key = line-keyed k t i q ∙ ap firstKey (sym (line-is k t i q))
+
   pub read : (r : ℕ) → r ≡ rowOf (getD is i 0) → Read (indexedOf h is ts ws cs) i ts ws cs r
   read r e =
       let b : r < c = omega (arith, row-below c i is (k .once) in-index) in
@@ -165,12 +170,12 @@ module _ (c : ℕ) (m m′ : Memory) (f : List ℕ) (w : ℤ) (t : T (formed c m
 module _ (k c : ℕ) (e : k ≡ c) (h : Head) (is ts : List ℕ) (ws : List ℤ) (cs : List ℕ) where
   pub fold-asks : (a : ℕ) (u : ℤ) (f : List ℕ) (w : ℤ) → Kept c h is ts ws cs → T (formed c (indexedOf h is ts ws cs)) → T (isPolynomial (h .variables) f)
       → T (some f) → a ≡ placeOf f (linesBy h is ts ws cs) → u ≡ weight (linesBy h is ts ws cs) f
-      → mag (weight (linesBy h is ts ws cs) f +ℤ w) < 2 ^ 63 → length (add f w (linesBy h is ts ws cs)) ≤ c
+      → mag (weight (linesBy h is ts ws cs) f +ℤ w) < 2 ^ 63 → length (add f w (linesBy h is ts ws cs)) ≤ c → (m : ℕ) → m ≡ firstKey f
       → Kept k h is ts ws cs × T (formed k (indexedOf h is ts ws cs)) × T (isPolynomial (h .variables) f) × T (some f)
       × (a ≡ placeOf f (linesBy h is ts ws cs)) × (u ≡ weight (linesBy h is ts ws cs) f)
-      × (mag (weight (linesBy h is ts ws cs) f +ℤ w) < 2 ^ 63) × (length (add f w (linesBy h is ts ws cs)) ≤ k)
-  fold-asks a u f w o t q n x y s l =
-      (subst (λ (n : ℕ). Kept n h is ts ws cs) (sym e) o, subst (λ (n : ℕ). T (formed n (indexedOf h is ts ws cs))) (sym e) t, q, n, x, y, s, omega arith)
+      × (mag (weight (linesBy h is ts ws cs) f +ℤ w) < 2 ^ 63) × (length (add f w (linesBy h is ts ws cs)) ≤ k) × (m ≡ firstKey f)
+  fold-asks a u f w o t q n x y s l m z =
+      (subst (λ (n : ℕ). Kept n h is ts ws cs) (sym e) o, subst (λ (n : ℕ). T (formed n (indexedOf h is ts ws cs))) (sym e) t, q, n, x, y, s, omega arith, z)
 
   pub fold-gives : (n : ℕ) (L : List Line) → (indexedOf h is ts ws cs ≡ imageOf k n L) × Kept k h is ts ws cs
       → (indexedOf h is ts ws cs ≡ imageOf c n L) × Kept c h is ts ws cs

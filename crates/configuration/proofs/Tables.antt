@@ -4,7 +4,7 @@ use mathlib.Core.Path.{_≡_, refl, sym, ap, _∙_}
 use mathlib.Core.Logic.{_⊎_, inl, inr}
 use mathlib.Core.Bool.{Bool, true, false, not, _&&_, true≢false}
 use mathlib.Core.List.{List, [], _∷_, _++_, append-assoc}
-use Prim.Native.Nat.{ℕ, zero, suc, _+_, _-_, _*_, _≤_, _<_}
+use Prim.Native.Nat.{ℕ, zero, suc, _+_, _-_, _*_, _^_, _≤_, _<_}
 use native.Mathlib.Nat.{one-mul, le-of-suc-le-suc, not-suc-le-zero}
 use native.Mathlib.Omega.{arith}
 use lib.Dec.{T, T-not, leb, leb→le}
@@ -14,6 +14,7 @@ use lib.Seq.{slice, length-slice, getD-drop, length-take-le, take-at, drop-at, d
 use Rattle.run.specs.Boolean.{is-false, left, right}
 use Rattle.run.specs.Run.{sorted}
 use Rattle.term.specs.Term.{before, keyOf}
+use Rattle.term.specs.TermLaws.{degree-le}
 use Rattle.polynomial.specs.Polynomial.{orderOf}
 use Rattle.polynomial.specs.OrderingLaws.{order-self, order-same}
 use Rattle.polynomial.specs.declared.Ordering.{Ordering}
@@ -217,6 +218,15 @@ some-length (t ∷ f) h = omega arith
 pub first-key : (f : List ℕ) → T (some f) → keyOf (getD f 0 0) ≡ firstKey f
 first-key [] h = absurd h
 first-key (t ∷ f) h = refl
+
+-- the key of a 32-bit mask, and so of a first term
+key-small : (t : ℕ) → t < 2 ^ 32 → keyOf t < 2 ^ 38
+unfolding keyOf
+key-small t h = omega (arith, degree-le 32 t h)
+
+pub first-small : (f : List ℕ) → T (some f) → getD f 0 0 < 2 ^ 32 → firstKey f < 2 ^ 38
+first-small [] n h = absurd n
+first-small (t ∷ f) n h = key-small t h
 
 add-none : (f : List ℕ) (w : ℤ) (L : List Line) → length f ≡ 0 → add f w L ≡ L
 unfolding add

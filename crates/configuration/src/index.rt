@@ -18,6 +18,15 @@ pub fn row_at(index: &[u64], at: usize) -> usize
     (entry % 128) as usize
 }
 
+// The key of the first term of the line at a place.
+pub fn key_at(index: &[u64], at: usize) -> u64
+    requires { ⌜ at < length (now index) ⌝ }
+    ensures { λ r. ⌜ r ≡ keyIn (getD (now (index .entry)) at 0) ⌝ }
+{
+    let entry = index[at];
+    entry / 128
+}
+
 // 1 where the key of an entry is above the given one, else 0. It is worked out without a branch: in a search nothing could
 // guess which way it goes.
 fn above(entry: u64, key: u64) -> usize

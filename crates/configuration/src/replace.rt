@@ -5,10 +5,12 @@ use crate::Head;
 use crate::Replaced;
 use crate::Verdict;
 use crate::form::weights_fit;
+use crate::index::key_at;
 use crate::index::row_at;
 use crate::table::fold_at;
 use crate::table::look_up;
 use crate::table::row;
+use term::key;
 ghost use mathlib.Core.Path.{_≡_};
 ghost use mathlib.Core.Bool.{not};
 ghost use mathlib.Core.List.{[], _∷_};
@@ -61,6 +63,7 @@ fn weigh(
             weights,
             counts,
             row(new_terms, here, count),
+            key_at(new_index, i),
         );
         let old = known.weight;
         places[i] = known.at;
@@ -150,6 +153,7 @@ fn fold_chosen(
                 at,
                 row(new_terms, here, count),
                 before[i],
+                key_at(new_index, i),
                 new_weights[here],
             );
         }
@@ -316,7 +320,8 @@ pub fn add(
             verdict: Verdict::Done,
         };
     }
-    let known = look_up(head, index, terms, weights, counts, f);
+    let first = key(f[0]);
+    let known = look_up(head, index, terms, weights, counts, f, first);
     let old = known.weight;
     let before = [old];
     let sum = old + amount;
@@ -337,6 +342,7 @@ pub fn add(
         known.at,
         f,
         old,
+        first,
         amount,
     );
     Replaced {

@@ -53,23 +53,24 @@ fn order_at(entry: u64, key: u64, terms: &[u32], counts: &[u32], f: &[u32]) -> O
     compare(f, row(terms, here, count))
 }
 
-// Finds the place of a polynomial: by the keys of the first terms, then among those that follow. Few lines have one first term,
-// so the first line is looked at first, and a probe reaches twice as far as the one before, at most to the middle of the rest.
-pub fn find(
+// Finds the place of a polynomial, not 0, whose first term has the given key: by the keys of the first terms, then among those
+// that follow. Few lines have one first term, so the first line is looked at first, and a probe reaches twice as far as the one
+// before, at most to the middle of the rest.
+fn find(
     head: Head,
     index: &[u64],
     terms: &[u32],
     weights: &[i64],
     counts: &[u32],
     f: &[u32],
+    first: u64,
 ) -> Place
-    requires { ⌜ Kept (length (now counts)) head (now index) (now terms) (now weights) (now counts) × T (formed (length (now counts)) (indexedOf head (now index) (now terms) (now weights) (now counts))) ⌝ }
+    requires { ⌜ Kept (length (now counts)) head (now index) (now terms) (now weights) (now counts) × T (formed (length (now counts)) (indexedOf head (now index) (now terms) (now weights) (now counts))) × T (some (now f)) × (first ≡ firstKey (now f)) ⌝ }
     ensures { λ r. ⌜ (r .at ≡ placeOf (now (f .entry)) (linesBy head (now (index .entry)) (now (terms .entry)) (now (weights .entry)) (now (counts .entry)))) × (r .held ≡ isHeld (now (f .entry)) (linesBy head (now (index .entry)) (now (terms .entry)) (now (weights .entry)) (now (counts .entry)))) ⌝ }
 {
-    if f.len() == 0 {
+    if head.lines == 0 {
         return Place { at: 0, held: false };
     }
-    let first = key(f[0]);
     let mut high = head.lines as usize;
     let mut low = ahead(high, index, first);
     let mut middle = low;
@@ -105,7 +106,7 @@ pub struct Known {
     pub weight: i64,
 }
 
-// Looks a polynomial up.
+// Looks a polynomial, not 0, up, whose first term has the given key.
 pub fn look_up(
     head: Head,
     index: &[u64],
@@ -113,11 +114,12 @@ pub fn look_up(
     weights: &[i64],
     counts: &[u32],
     f: &[u32],
+    first: u64,
 ) -> Known
-    requires { ⌜ Kept (length (now counts)) head (now index) (now terms) (now weights) (now counts) × T (formed (length (now counts)) (indexedOf head (now index) (now terms) (now weights) (now counts))) × T (some (now f)) ⌝ }
+    requires { ⌜ Kept (length (now counts)) head (now index) (now terms) (now weights) (now counts) × T (formed (length (now counts)) (indexedOf head (now index) (now terms) (now weights) (now counts))) × T (some (now f)) × (first ≡ firstKey (now f)) ⌝ }
     ensures { λ r. ⌜ (r .at ≡ placeOf (now (f .entry)) (linesBy head (now (index .entry)) (now (terms .entry)) (now (weights .entry)) (now (counts .entry)))) × (r .weight ≡ weight (linesBy head (now (index .entry)) (now (terms .entry)) (now (weights .entry)) (now (counts .entry))) (now (f .entry))) ⌝ }
 {
-    let place = find(head, index, terms, weights, counts, f);
+    let place = find(head, index, terms, weights, counts, f, first);
     let at = place.at;
     if place.held {
         let here = row_at(index, at);
@@ -139,11 +141,12 @@ pub fn weight_of(
     requires { ⌜ Kept (length (now counts)) head (now index) (now terms) (now weights) (now counts) × T (formed (length (now counts)) (indexedOf head (now index) (now terms) (now weights) (now counts))) × T (some (now f)) ⌝ }
     ensures { λ r. ⌜ r ≡ weight (linesBy head (now (index .entry)) (now (terms .entry)) (now (weights .entry)) (now (counts .entry))) (now (f .entry)) ⌝ }
 {
-    let known = look_up(head, index, terms, weights, counts, f);
+    let first = key(f[0]);
+    let known = look_up(head, index, terms, weights, counts, f, first);
     known.weight
 }
 
-// Puts a line in at a place among the lines, in the first row that is free.
+// Puts a line, whose first term has the given key, in at a place among the lines, in the first row that is free.
 fn insert_line(
     head: Head,
     index: &mut [u64],
@@ -152,9 +155,10 @@ fn insert_line(
     counts: &mut [u32],
     at: usize,
     f: &[u32],
+    first: u64,
     weight: i64,
 ) -> Head
-    requires { ⌜ Kept (length (now counts)) head (now index) (now terms) (now weights) (now counts) × T (formed (length (now counts)) (indexedOf head (now index) (now terms) (now weights) (now counts))) × (at ≤ head .lines) × (head .lines < length (now counts)) × T (some (now f)) × (length (now f) ≤ 64) ⌝ }
+    requires { ⌜ Kept (length (now counts)) head (now index) (now terms) (now weights) (now counts) × T (formed (length (now counts)) (indexedOf head (now index) (now terms) (now weights) (now counts))) × (at ≤ head .lines) × (head .lines < length (now counts)) × T (some (now f)) × (length (now f) ≤ 64) × (first ≡ firstKey (now f)) ⌝ }
     ensures table { λ r. ⌜ indexedOf r (now (index .exit)) (now (terms .exit)) (now (weights .exit)) (now (counts .exit))
         ≡ imageOf (length (now (counts .entry))) (head .variables)
         (take at (linesBy head (now (index .entry)) (now (terms .entry)) (now (weights .entry)) (now (counts .entry)))
@@ -163,7 +167,7 @@ fn insert_line(
 {
     let lines = head.lines as usize;
     let here = row_at(index, lines);
-    insert_entry(index, at, lines, 128 * key(f[0]) + (here as u64));
+    insert_entry(index, at, lines, 128 * first + (here as u64));
     write(terms, 64 * here, f);
     weights[here] = weight;
     counts[here] = f.len() as u32;
@@ -203,8 +207,8 @@ fn remove_line(
     }
 }
 
-// Folds a weighted polynomial, not 0, in at its place, where its weight so far is known: 0 if it is not held. It is for this
-// crate.
+// Folds a weighted polynomial, not 0, in at its place, where the key of its first term and its weight so far are known: 0 if it
+// is not held. It is for this crate.
 pub fn fold_at(
     head: Head,
     index: &mut [u64],
@@ -214,9 +218,10 @@ pub fn fold_at(
     at: usize,
     f: &[u32],
     old: i64,
+    first: u64,
     amount: i64,
 ) -> Head
-    requires { ⌜ Kept (length (now counts)) head (now index) (now terms) (now weights) (now counts) × T (formed (length (now counts)) (indexedOf head (now index) (now terms) (now weights) (now counts))) × T (isPolynomial (head .variables) (now f)) × T (some (now f)) × (at ≡ placeOf (now f) (linesBy head (now index) (now terms) (now weights) (now counts))) × (old ≡ weight (linesBy head (now index) (now terms) (now weights) (now counts)) (now f)) × (mag (weight (linesBy head (now index) (now terms) (now weights) (now counts)) (now f) +ℤ amount) < 2 ^ 63) × (length (add (now f) amount (linesBy head (now index) (now terms) (now weights) (now counts))) ≤ length (now counts)) ⌝ }
+    requires { ⌜ Kept (length (now counts)) head (now index) (now terms) (now weights) (now counts) × T (formed (length (now counts)) (indexedOf head (now index) (now terms) (now weights) (now counts))) × T (isPolynomial (head .variables) (now f)) × T (some (now f)) × (at ≡ placeOf (now f) (linesBy head (now index) (now terms) (now weights) (now counts))) × (old ≡ weight (linesBy head (now index) (now terms) (now weights) (now counts)) (now f)) × (mag (weight (linesBy head (now index) (now terms) (now weights) (now counts)) (now f) +ℤ amount) < 2 ^ 63) × (length (add (now f) amount (linesBy head (now index) (now terms) (now weights) (now counts))) ≤ length (now counts)) × (first ≡ firstKey (now f)) ⌝ }
     ensures table { λ r. ⌜ indexedOf r (now (index .exit)) (now (terms .exit)) (now (weights .exit)) (now (counts .exit))
         ≡ imageOf (length (now (counts .entry))) (head .variables)
         (add (now (f .entry)) amount (linesBy head (now (index .entry)) (now (terms .entry)) (now (weights .entry)) (now (counts .entry)))) ⌝ }
@@ -234,7 +239,7 @@ pub fn fold_at(
     if amount == 0 {
         return head;
     }
-    insert_line(head, index, terms, weights, counts, at, f, amount)
+    insert_line(head, index, terms, weights, counts, at, f, first, amount)
 }
 
 // Folds a weighted polynomial in: an equal polynomial's weight is added up, a weight or polynomial 0 vanishes.
@@ -256,7 +261,8 @@ pub fn fold_in(
     if f.len() == 0 {
         return head;
     }
-    let known = look_up(head, index, terms, weights, counts, f);
+    let first = key(f[0]);
+    let known = look_up(head, index, terms, weights, counts, f, first);
     fold_at(
         head,
         index,
@@ -266,6 +272,7 @@ pub fn fold_in(
         known.at,
         f,
         known.weight,
+        first,
         amount,
     )
 }

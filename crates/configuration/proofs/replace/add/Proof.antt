@@ -15,12 +15,12 @@ use Rattle.configuration.specs.Weight.{limit, allInRange}
 use Rattle.configuration.specs.Configuration.{Line, line, some, weight, add, addAll}
 use Rattle.configuration.specs.Memory.{Memory, linesOf, imageOf, formed}
 use Rattle.configuration.specs.MemoryLaws.{well-formed, formed-parts, weights-bound}
-use Rattle.configuration.specs.Index.{indexedOf, Kept}
+use Rattle.configuration.specs.Index.{indexedOf, firstKey, Kept}
 use Rattle.configuration.specs.Replacement.{weightsBefore, weightsAfter, countHeld, verdictOf}
 use Rattle.configuration.specs.PlaceLaws.{fit-weight}
 use Rattle.configuration.specs.ReplacementLaws.{in-range-mag, mag-add}
 use Rattle.configuration.proofs.Areas.{read-back}
-use Rattle.configuration.proofs.Tables.{some-of}
+use Rattle.configuration.proofs.Tables.{some-of, some-length, first-key}
 use Rattle.configuration.proofs.Replacements.{table-ordered, sum-fits, sum-is, fold-asks, fold-gives, Judged, refused, judged-few, replaced-is, nothing-added}
 use Rattle.configuration.proofs.replace.add.Statement.{statement}
 use Rattle.configuration.proofs.replace.add.Tie as tie
@@ -45,19 +45,37 @@ begun c = c .before .before .before .before .before
 not-empty : (c : tie.Else1) → T (some (begun c .args .f .now))
 not-empty c = some-of (begun c .args .f .now) (c .if1 .left)
 
+shared-slice-read-key : tie.Need-shared-slice-read-key
+shared-slice-read-key c = some-length (begun (c .before) .args .f .now) (not-empty (c .before))
+
+key-requires : tie.Need-key-requires
+key-requires c κs = search needs
+
+-- the key of its first term
+abbrev other : tie.After-key → tie.Else1
+other c = c .before .before
+
+key-is : (c : tie.After-key) → c .key .result ≡ firstKey (begun (other c) .args .f .now)
+key-is c = c .key .ensures .0 ∙ first-key (begun (other c) .args .f .now) (not-empty (other c))
+
 look-up-requires : tie.Need-look-up-requires
 look-up-requires c κs =
-    let k = c .before .before .before .before in
+    let m = c .before .before .before .before in
+    let k = other m in
     let s = begun k in
     let e = s .pre .0 .counts-length in (
       subst (λ (n : ℕ). Kept n (s .args .head) (s .args .index .now) (s .args .terms .now) (s .args .weights .now) (s .args .counts .now)) (sym e) (s .pre .0),
       subst (λ (n : ℕ). T (formed n (old s))) (sym e) (is-old s),
       not-empty k,
+      key-is m,
     )
 
 -- ---- its weight before and afterwards
+abbrev keyed : tie.After-look-up → tie.After-key
+keyed c = c .before .before .before .before .before
+
 abbrev start : tie.After-look-up → tie.Start
-start c = begun (c .before .before .before .before .before)
+start c = begun (other (keyed c))
 
 abbrev held : tie.Start → ℤ
 held s = weight (linesOf (old s)) (s .args .f .now)
@@ -110,7 +128,7 @@ judged c =
     let e = sum-is _ _ (held s) (s .args .amount) (found-weight w) (amount-is s) (held-mag s) (omega (arith, s .pre .3)) in
     record {
       well = s .pre .1;
-      in-order = (not-empty (w .before .before .before .before .before), (s .pre .4, (tt, tt)));
+      in-order = (not-empty (other (keyed w)), (s .pre .4, (tt, tt)));
       before-are = refl;
       after-are = refl;
       verdict-is = c .judge .ensures ∙ ap₂ (λ (b a : ℤ). verdictOf (leb (s .args .head .lines + countHeld (a ∷ [])) (128 + countHeld (b ∷ []))) (allInRange (a ∷ []))) (found-weight w) e;
@@ -157,8 +175,8 @@ fold-at-requires c κs =
     let v = toZ w64 (ofZ w64 (a .amount)) in
     fold-asks (length (a .counts .now)) 128 (s .pre .0 .counts-length) (a .head) (a .index .now) (a .terms .now) (a .weights .now) (a .counts .now)
     (w .look-up .result .at) (toZ w64 (ofZ w64 (w .look-up .result .weight))) (a .f .now) v (s .pre .0) (is-old s) (s .pre .2)
-    (not-empty (w .before .before .before .before .before)) (w .look-up .ensures .0) (found-weight w)
-    (rw (amount-is s) (omega (arith, mag-add (held s) (a .amount), held-mag s, s .pre .3))) (rw (amount-is s) (room-left d))
+    (not-empty (other (keyed w))) (w .look-up .ensures .0) (found-weight w)
+    (rw (amount-is s) (omega (arith, mag-add (held s) (a .amount), held-mag s, s .pre .3))) (rw (amount-is s) (room-left d)) (keyed w .key .result) (key-is (keyed w))
 
 same-length-5 : tie.Need-same-length-5
 same-length-5 c = search needs
@@ -194,6 +212,8 @@ add-spec =
     tie.close
     (tie.spec
     returns
+    shared-slice-read-key
+    key-requires
     look-up-requires
     add-sum
     cast-judge

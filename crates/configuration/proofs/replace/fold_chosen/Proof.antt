@@ -16,12 +16,12 @@ use Rattle.configuration.specs.Weight.{isZero}
 use Rattle.configuration.specs.Configuration.{line, weight, add, placeOf, isPolynomial}
 use Rattle.configuration.specs.Memory.{Memory, linesOf, readLines, formed}
 use Rattle.configuration.specs.declared.Head.{Head}
-use Rattle.configuration.specs.Index.{arranged, indexedOf, linesBy, Kept}
+use Rattle.configuration.specs.Index.{keyIn, arranged, indexedOf, linesBy, firstKey, Kept}
 use Rattle.configuration.specs.PlaceLaws.{place-le}
 use Rattle.configuration.specs.MemoryLaws.{formed-parts}
 use Rattle.configuration.proofs.Areas.{read-back}
 use Rattle.configuration.proofs.Forms.{rowAt}
-use Rattle.configuration.proofs.Replacements.{none, zero-bits, line-here, row-polynomial, table-ordered, table-length, Read, read, in-index, fold-asks, fold-gives, Folding, folding-none, folding-all, folding-skip, folding-room, folding-fits, folding-some, folding-place, folding-weight, folding-more}
+use Rattle.configuration.proofs.Replacements.{entry-key, none, zero-bits, line-here, row-polynomial, table-ordered, table-length, Read, read, in-index, fold-asks, fold-gives, Folding, folding-none, folding-all, folding-skip, folding-room, folding-fits, folding-some, folding-place, folding-weight, folding-more}
 use Rattle.configuration.proofs.replace.fold_chosen.Statement.{statement}
 use Rattle.configuration.proofs.replace.fold_chosen.Tie as tie
 
@@ -106,6 +106,11 @@ here-is c = line-here 4 (new c) (is-new c) (place c) (below c)
 
 is-polynomial : (c : In) → T (isPolynomial ((old c) .variables) (polynomial c))
 is-polynomial c = subst (λ (n : ℕ). T (isPolynomial n (polynomial c))) (start c .pre .4) (row-polynomial 4 (new c) (is-new c) (place c) (below c))
+
+key-is : (c : In) → keyIn (getD (start c .args .new-index .now) (place c) 0) ≡ firstKey (polynomial c)
+key-is c =
+    let a = start c .args in
+    entry-key 4 (a .new) (a .new-index .now) (a .new-terms .now) (a .new-weights .now) (a .new-counts .now) (start c .pre .2) (is-new c) (place c) (below c)
 
 mul-vanishes : tie.Need-mul-vanishes Inv-loop μ-loop
 mul-vanishes c = search needs
@@ -202,11 +207,14 @@ mul-fold-at c = search needs
 shared-slice-copy-out-fold-at : tie.Need-shared-slice-copy-out-fold-at Inv-loop μ-loop
 shared-slice-copy-out-fold-at c = in-new (c .before .before .before .before .before .before .before .before .before .before .before .before) .3
 
+key-at-requires : tie.Need-key-at-requires Inv-loop μ-loop
+key-at-requires c κs = row-at-requires (c .before .before .before .before .before .before .before .before .before .before .before) κs
+
 mul-fold-at-2 : tie.Need-mul-fold-at-2 Inv-loop μ-loop
-mul-fold-at-2 c = omega (arith, here (c .before .before .before .before .before .before .before .before .before .before) .low)
+mul-fold-at-2 c = omega (arith, here (c .before .before .before .before .before .before .before .before .before .before .before) .low)
 
 shared-slice-copy-out-fold-at-2 : tie.Need-shared-slice-copy-out-fold-at-2 Inv-loop μ-loop
-shared-slice-copy-out-fold-at-2 c = here (c .before .before .before .before .before .before .before .before .before .before) .in-weights
+shared-slice-copy-out-fold-at-2 c = here (c .before .before .before .before .before .before .before .before .before .before .before) .in-weights
 
 -- what the code reads of a chosen line: its polynomial f and its amount w
 found : (c : In) (f : List ℕ) (w : ℤ) → f ≡ polynomial c → w ≡ amount c → getD (linesOf (new c)) (place c) none ≡ line f w
@@ -214,26 +222,27 @@ found c f w e d = here-is c ∙ ap₂ line (sym e) (sym d)
 
 fold-at-requires : tie.Need-fold-at-requires Inv-loop μ-loop
 fold-at-requires c κs =
-    let r = c .before .before .before .before .before .before .before .before .before .before .before in
+    let r = c .before .before .before .before .before .before .before .before .before .before .before .before in
     let k = r .before in
     let a = at-line k in
     let l = a .before .loop in
     let g = folding a in
     let i = in-new a in
-    let f = c .before .before .row .result .now in
+    let f = c .before .before .before .row .result .now in
     let w = toZ w64 (ofZ w64 (getD (start a .args .new-weights .now) (r .row-at .result) (pos 0))) in
     let old-weight = getD (start a .args .before .now) (place a) (pos 0) in
     let at = getD (start a .args .places .now) (place a) 0 + l .held .lines - start a .args .head .lines in
-    let e : f ≡ polynomial a = c .before .before .row .ensures ∙ here r .terms-are in
+    let e : f ≡ polynomial a = c .before .before .before .row .ensures ∙ here r .terms-are in
     let d : w ≡ amount a = read-back (getD (start a .args .new-weights .now) (r .row-at .result) (pos 0)) (c .fold-at-arg6 .given) ∙ here r .weight-is in
     let q : T (isPolynomial (l .held .variables) f) =
     subst (λ (n : ℕ). T (isPolynomial n f)) (sym (g .variables-are)) (subst (λ (p : List ℕ). T (isPolynomial ((old a) .variables) p)) (sym e) (is-polynomial a)) in
     let x : at ≡ placeOf (polynomial a) (linesOf (table a)) = omega (arith, moved-place k, counted a .0, counted a .1) in
-    let y : toZ w64 (ofZ w64 old-weight) ≡ weight (linesOf (table a)) (polynomial a) = read-back old-weight (c .before .fold-at-arg5 .given) ∙ held-weight k in
+    let y : toZ w64 (ofZ w64 old-weight) ≡ weight (linesOf (table a)) (polynomial a) = read-back old-weight (c .before .before .fold-at-arg5 .given) ∙ held-weight k in
     fold-asks (length (l .counts)) 128 (l .inv .2 .counts-length) (l .held) (l .index) (l .terms) (l .weights) (l .counts) at (toZ w64 (ofZ w64 old-weight)) f w (l .inv .2) (g .is-formed) q
     (folding-some g (i .0) (i .1) f w (found a f w e d) (is-chosen k))
     (x ∙ ap (λ (p : List ℕ). placeOf p (linesOf (table a))) (sym e)) (y ∙ ap (weight (linesOf (table a))) (sym e))
     (folding-fits g (i .0) (i .1) f w (found a f w e d) (is-chosen k)) (folding-room g (i .0) (i .1) f w (found a f w e d) (is-chosen k))
+    (c .before .key-at .result) (c .before .key-at .ensures ∙ key-is a ∙ ap firstKey (sym e))
 
 add-i : tie.Need-add-i Inv-loop μ-loop
 add-i c = search needs
@@ -259,12 +268,12 @@ loop-again c =
     let x = getD (start a .args .new-weights .now) (r .row-at .result) (pos 0) in
     let u = toZ w64 (ofZ w64 x) in
     let e : f ≡ polynomial a = w .10 .ensures ∙ here r .terms-are in
-    let d : u ≡ amount a = read-back x (w .12 .given) ∙ here r .weight-is in
-    let z = w .13 in
+    let d : u ≡ amount a = read-back x (w .13 .given) ∙ here r .weight-is in
+    let z = w .14 in
     let t = fold-gives (length (l .counts)) 128 (l .inv .2 .counts-length) (z .result) (z .last .1 .0) (z .last .1 .1 .0) (z .last .1 .1 .1 .0) (z .last .1 .1 .1 .1 .0)
     (l .held .variables) (add f u (linesOf (table a))) (z .ensures) in
     let q : T (isPolynomial ((old a) .variables) f) = subst (λ (p : List ℕ). T (isPolynomial ((old a) .variables) p)) (sym e) (is-polynomial a) in
-    coe 1 0 (j. Next a (w .25 j) (w .21 j) (w .22 j) (w .23 j) (w .24 j)) (folding-more g (i .0) (i .1) f u (found a f u e d) (is-chosen k) _ q (t .0), t .1))
+    coe 1 0 (j. Next a (w .26 j) (w .22 j) (w .23 j) (w .24 j) (w .25 j)) (folding-more g (i .0) (i .1) f u (found a f u e d) (is-chosen k) _ q (t .0), t .1))
     (λ w.
     let k : tie.Else1 Inv-loop μ-loop = record { before = c .before; if1 = w .0 } in
     coe 1 0 (j. Next a (w .5 j) (w .1 j) (w .2 j) (w .3 j) (w .4 j)) (folding-skip g (i .0) (i .1) (polynomial a) (amount a) (here-is a) (not-chosen k), l .inv .2))
@@ -312,6 +321,7 @@ fold-chosen-spec =
     row-requires
     mul-fold-at
     shared-slice-copy-out-fold-at
+    key-at-requires
     mul-fold-at-2
     shared-slice-copy-out-fold-at-2
     fold-at-requires

@@ -13,14 +13,14 @@ use borrow.Author.Needs.{needs}
 use Rattle.configuration.specs.Weight.{limit}
 use Rattle.configuration.specs.Configuration.{some, weight, placeOf, weightsFit}
 use Rattle.configuration.specs.Memory.{Memory, linesOf, readLines, formed}
-use Rattle.configuration.specs.Index.{arranged, indexedOf, linesBy, Kept}
+use Rattle.configuration.specs.Index.{arranged, indexedOf, linesBy, firstKey, Kept}
 use Rattle.configuration.specs.Replacement.{placesIn, weightsBefore, weightsAfter}
 use Rattle.configuration.specs.PlaceLaws.{fit-weight}
 use Rattle.configuration.specs.MemoryLaws.{well-formed, weights-bound, formed-parts}
 use Rattle.configuration.specs.ReplacementLaws.{in-range-mag}
 use Rattle.configuration.proofs.Areas.{read-back}
 use Rattle.configuration.proofs.Forms.{rowAt}
-use Rattle.configuration.proofs.Replacements.{line-here, row-some, table-ordered, table-length, Read, read, in-index, small-at, sum-fits, sum-is, weigh-more, weigh-all}
+use Rattle.configuration.proofs.Replacements.{entry-key, line-here, row-some, table-ordered, table-length, Read, read, in-index, small-at, sum-fits, sum-is, weigh-more, weigh-all}
 use Rattle.configuration.proofs.replace.weigh.Statement.{statement}
 use Rattle.configuration.proofs.replace.weigh.Tie as tie
 
@@ -115,29 +115,36 @@ row-requires c κs = here (c .before) .in-terms
 read-row : (c : tie.After-row Inv-loop μ-loop) → c .row .result .now ≡ polynomial (c .before .before .before)
 read-row c = c .row .ensures ∙ here (c .before .before) .terms-are
 
+key-at-requires : tie.Need-key-at-requires Inv-loop μ-loop
+key-at-requires c κs = row-at-requires (c .before .before .before) κs
+
 look-up-requires : tie.Need-look-up-requires Inv-loop μ-loop
 look-up-requires c κs =
-    let a = c .before .before .before in
+    let a = c .before .before .before .before in
     let s = start a in
+    let b = s .args in
     let e = s .pre .0 .counts-length in (
       subst (λ (n : ℕ). Kept n (s .args .head) (s .args .index .now) (s .args .terms .now) (s .args .weights .now) (s .args .counts .now)) (sym e) (s .pre .0),
       subst (λ (n : ℕ). T (formed n (old a))) (sym e) (is-old a),
-      subst (λ (f : List ℕ). T (some f)) (sym (read-row c)) (row-some 4 (new a) (is-new a) (place a) (below a)),
+      subst (λ (f : List ℕ). T (some f)) (sym (read-row (c .before))) (row-some 4 (new a) (is-new a) (place a) (below a)),
+      c .key-at .ensures
+          ∙ entry-key 4 (b .new) (b .new-index .now) (b .new-terms .now) (b .new-weights .now) (b .new-counts .now) (s .pre .2) (is-new a) (place a) (below a)
+          ∙ ap firstKey (sym (read-row (c .before))),
     )
 
 -- the place and the weight that the code finds
 found-place : (c : tie.After-look-up Inv-loop μ-loop)
-    → c .look-up .result .at ≡ placeOf (polynomial (c .before .before .before .before)) (linesOf (old (c .before .before .before .before)))
+    → c .look-up .result .at ≡ placeOf (polynomial (c .before .before .before .before .before)) (linesOf (old (c .before .before .before .before .before)))
 found-place c =
-    let a = c .before .before .before .before in
-    subst (λ (f : List ℕ). c .look-up .result .at ≡ placeOf f (linesOf (old a))) (read-row (c .before)) (c .look-up .ensures .0)
+    let a = c .before .before .before .before .before in
+    subst (λ (f : List ℕ). c .look-up .result .at ≡ placeOf f (linesOf (old a))) (read-row (c .before .before)) (c .look-up .ensures .0)
 
 found : (c : tie.After-look-up Inv-loop μ-loop)
-    → toZ w64 (ofZ w64 (c .look-up .result .weight)) ≡ weight (linesOf (old (c .before .before .before .before))) (polynomial (c .before .before .before .before))
+    → toZ w64 (ofZ w64 (c .look-up .result .weight)) ≡ weight (linesOf (old (c .before .before .before .before .before))) (polynomial (c .before .before .before .before .before))
 found c =
-    let a = c .before .before .before .before in
+    let a = c .before .before .before .before .before in
     let e : c .look-up .result .weight ≡ weight (linesOf (old a)) (polynomial a) =
-    subst (λ (f : List ℕ). c .look-up .result .weight ≡ weight (linesOf (old a)) f) (read-row (c .before)) (c .look-up .ensures .1) in
+    subst (λ (f : List ℕ). c .look-up .result .weight ≡ weight (linesOf (old a)) f) (read-row (c .before .before)) (c .look-up .ensures .1) in
     ap (λ (z : ℤ). toZ w64 (ofZ w64 z)) e ∙ read-back (weight (linesOf (old a)) (polynomial a)) (omega (arith, held-mag a))
 
 read-amount : (c : tie.After-row-at Inv-loop μ-loop)
@@ -145,47 +152,47 @@ read-amount : (c : tie.After-row-at Inv-loop μ-loop)
 read-amount c = ap (λ (z : ℤ). toZ w64 (ofZ w64 z)) (here c .weight-is) ∙ read-back (amount (c .before)) (omega (arith, amount-mag (c .before)))
 
 mul-places : tie.Need-mul-places Inv-loop μ-loop
-mul-places c = omega (arith, in-new (c .before .before .before .before .before) .0)
+mul-places c = omega (arith, in-new (c .before .before .before .before .before .before) .0)
 
 array-write-places : tie.Need-array-write-places Inv-loop μ-loop
-array-write-places c = in-new (c .before .before .before .before .before) .0
+array-write-places c = in-new (c .before .before .before .before .before .before) .0
 
 mul-before : tie.Need-mul-before Inv-loop μ-loop
-mul-before c = omega (arith, in-new (c .before .before .before .before .before) .0)
+mul-before c = omega (arith, in-new (c .before .before .before .before .before .before) .0)
 
 array-set-from-before : tie.Need-array-set-from-before Inv-loop μ-loop
-array-set-from-before c = in-new (c .before .before .before .before .before) .0
+array-set-from-before c = in-new (c .before .before .before .before .before .before) .0
 
 mul-after : tie.Need-mul-after Inv-loop μ-loop
-mul-after c = omega (arith, here (c .before .before .before .before) .low)
+mul-after c = omega (arith, here (c .before .before .before .before .before) .low)
 
 shared-slice-copy-out-after : tie.Need-shared-slice-copy-out-after Inv-loop μ-loop
-shared-slice-copy-out-after c = here (c .before .before .before .before) .in-weights
+shared-slice-copy-out-after c = here (c .before .before .before .before .before) .in-weights
 
 add-after : tie.Need-add-after Inv-loop μ-loop
 add-after c =
     let w = c .before .before in
-    let r = w .before .before .before in
+    let r = w .before .before .before .before in
     let a = r .before in
     sum-fits _ _ (weight (linesOf (old a)) (polynomial a)) (amount a) (found w) (read-amount r) (held-mag a) (amount-mag a)
 
 mul-after-2 : tie.Need-mul-after-2 Inv-loop μ-loop
-mul-after-2 c = omega (arith, in-new (c .before .before .before .before .before .before) .0)
+mul-after-2 c = omega (arith, in-new (c .before .before .before .before .before .before .before) .0)
 
 array-set-from-after : tie.Need-array-set-from-after Inv-loop μ-loop
-array-set-from-after c = in-new (c .before .before .before .before .before .before) .0
+array-set-from-after c = in-new (c .before .before .before .before .before .before .before) .0
 
 add-i : tie.Need-add-i Inv-loop μ-loop
-add-i c = omega (arith, in-new (c .before .before .before .before .before .before) .0)
+add-i c = omega (arith, in-new (c .before .before .before .before .before .before .before) .0)
 
 loop-less : tie.Need-loop-less Inv-loop μ-loop
-loop-less c = omega (arith, below (c .before .before .before .before .before .before))
+loop-less c = omega (arith, below (c .before .before .before .before .before .before .before))
 
 loop-again : tie.Need-loop-again Inv-loop μ-loop
 unfolding placesIn weightsBefore weightsAfter
 loop-again c =
     let w = c .before .before in
-    let r = w .before .before .before in
+    let r = w .before .before .before .before in
     let a = r .before in
     let l = a .before .loop in
     let h = line-here 4 (new a) (is-new a) (place a) (below a) in
@@ -233,6 +240,7 @@ weigh-spec =
     shared-slice-read-count
     cast-count
     row-requires
+    key-at-requires
     look-up-requires
     mul-places
     array-write-places

@@ -4,16 +4,16 @@ use mathlib.Core.Path.{_≡_, refl, sym, _∙_}
 use mathlib.Core.Logic.{⊎-elim}
 use Prim.Native.Nat.{_-_, _<_, _≤_}
 use native.Mathlib.Omega.{arith}
-use lib.Dec.{T}
 use lib.ListN.{length}
 use denote.Ref.{now}
 use borrow.Author.Needs.{needs}
 use Rattle.polynomial.specs.Polynomial.{orderOf}
-use Rattle.configuration.specs.Configuration.{some}
-use Rattle.configuration.specs.Index.{arranged, firstKey}
+use Rattle.configuration.specs.Configuration.{placeOf, isHeld}
+use Rattle.configuration.specs.Memory.{readLines}
+use Rattle.configuration.specs.Index.{arranged}
 use Rattle.configuration.proofs.Forms.{rowAt}
-use Rattle.configuration.proofs.Tables.{Between, lower, upper, found, missing, some-of, first-key, row-in-table, room, in-use, count-short}
-use Rattle.configuration.proofs.Searches.{zero-place, kept-ordered, falling, line-is, line-some, line-keyed, starts}
+use Rattle.configuration.proofs.Tables.{Between, lower, upper, found, missing, first-small, row-in-table, room, in-use, count-short}
+use Rattle.configuration.proofs.Searches.{kept-ordered, falling, line-is, line-some, line-keyed, starts}
 use Rattle.configuration.proofs.table.find.Statement.{statement}
 use Rattle.configuration.proofs.table.find.Tie as tie
 
@@ -26,16 +26,10 @@ abbrev μ-loop : tie.MeasureT-loop
 
 -- the start, and the turn that a comparison belongs to
 abbrev begun : tie.After-ahead Inv-loop μ-loop → tie.Start Inv-loop μ-loop
-begun c = c .before .before .before .before .before .before .before .before .before
+begun c = c .before .before .before .before .before .before .before .before
 
 abbrev turn : tie.After-order-at Inv-loop μ-loop → tie.In-loop Inv-loop μ-loop
 turn c = c .before .before
-
-some-f : (c : tie.After-ahead Inv-loop μ-loop) → T (some (now (begun c .args .f)))
-some-f c = some-of (now (begun c .args .f)) (c .before .before .before .before .if1 .left)
-
-first-is : (c : tie.After-ahead Inv-loop μ-loop) → c .before .before .key .result ≡ firstKey (now (begun c .args .f))
-first-is c = c .before .before .key .ensures .0 ∙ first-key (now (begun c .args .f)) (some-f c)
 
 indexed : (s : tie.Start Inv-loop μ-loop) → s .args .head .lines ≤ length (now (s .args .index))
 indexed s = room (s .pre .0) (s .pre .1)
@@ -73,29 +67,25 @@ narrowed c =
     (c .match .came)
 
 returns : tie.Need-returns Inv-loop μ-loop
-returns c =
-    let s = c .before .before .before .before .before in
-    zero-place _ _ (c .if1 .taken) (kept-ordered (s .pre .0) (s .pre .1))
-
-shared-slice-read-key : tie.Need-shared-slice-read-key Inv-loop μ-loop
-shared-slice-read-key c = search needs
-
-key-requires : tie.Need-key-requires Inv-loop μ-loop
-key-requires c κs = search needs
+unfolding readLines placeOf isHeld
+returns c = rw (c .if1 .taken) (refl, refl)
 
 cast-high : tie.Need-cast-high Inv-loop μ-loop
 cast-high c = search needs
 
 ahead-requires : tie.Need-ahead-requires Inv-loop μ-loop
 ahead-requires c κs =
-    let s = c .before .before .before .before .before .before .before .before in
-    (indexed s, falling (s .pre .0) (s .pre .1), c .before .key .ensures .1)
+    let s = c .before .before .before .before .before .before .before in (
+      indexed s,
+      falling (s .pre .0) (s .pre .1),
+      rw (s .pre .3) (first-small (now (s .args .f)) (s .pre .2) (c .before .before .before .shared-slice-known4 .given 0 .fits)),
+    )
 
 loop-holds : tie.Need-loop-holds Inv-loop μ-loop
 loop-holds c =
     let s = begun c in (
-      rw (c .ahead .ensures, first-is c) (starts (s .pre .0) (s .pre .1) (now (s .args .f)) (some-f c) (c .before .before .before .shared-slice-known5 .given 0 .fits)
-          (λ i. c .before .before .before .before .before .before .before .shared-slice-known2 .given i .fits)),
+      rw (c .ahead .ensures, s .pre .3) (starts (s .pre .0) (s .pre .1) (now (s .args .f)) (s .pre .2) (c .before .before .before .before .shared-slice-known4 .given 0 .fits)
+          (λ i. c .before .before .before .before .before .before .shared-slice-known2 .given i .fits)),
       omega arith,
       λ h. h,
       omega arith,
@@ -114,8 +104,8 @@ order-at-requires c κs =
     let k = s .pre .0 in
     let i = c .before .before .loop .middle in
     let l = in-table (c .before) in (
-      some-f a,
-      first-is a,
+      s .pre .2,
+      s .pre .3,
       row-in-table k i (in-use k (s .pre .1) i l),
       count-short k (s .pre .1) i _ l refl,
       k .terms-length,
@@ -176,8 +166,6 @@ find-spec =
     Inv-loop
     μ-loop
     returns
-    shared-slice-read-key
-    key-requires
     cast-high
     ahead-requires
     loop-holds

@@ -134,6 +134,7 @@ insert-line-requires c κs =
       add-room (placed s) (not-held k) w (s .pre .3) (not-zero w (n .if3 .left)) (s .pre .7),
       s .pre .3,
       short-polynomial (s .args .head .variables) (now (s .args .f)) (s .pre .2),
+      s .pre .8,
     )
 
 same-length-7 : tie.Need-same-length-7

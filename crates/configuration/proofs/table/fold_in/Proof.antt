@@ -1,13 +1,14 @@
 -- `fold_in` meets its contract: nothing is done for the polynomial 0, and another is looked up and folded in at its place.
+use mathlib.Core.Path.{_≡_, _∙_}
 use lib.Dec.{T}
 use lib.ListN.{length}
 use denote.Ref.{now}
 use mir.Facts.{toZ-ofZ}
 use borrow.Author.Needs.{needs}
 use Rattle.configuration.specs.Configuration.{some}
-use Rattle.configuration.specs.Index.{arranged}
+use Rattle.configuration.specs.Index.{arranged, firstKey}
 use Rattle.configuration.proofs.Areas.{read-back}
-use Rattle.configuration.proofs.Tables.{some-of, add-empty}
+use Rattle.configuration.proofs.Tables.{some-of, some-length, first-key, add-empty}
 use Rattle.configuration.proofs.table.fold_in.Statement.{statement}
 use Rattle.configuration.proofs.table.fold_in.Tie as tie
 
@@ -26,12 +27,29 @@ returns c =
       s .pre .0,
     )
 
+shared-slice-read-key : tie.Need-shared-slice-read-key
+shared-slice-read-key c = some-length (now (begun (c .before) .args .f)) (not-empty (c .before))
+
+key-requires : tie.Need-key-requires
+key-requires c κs = search needs
+
+-- the key of its first term
+abbrev other : tie.After-key → tie.Else1
+other c = c .before .before
+
+key-is : (c : tie.After-key) → c .key .result ≡ firstKey (now (begun (other c) .args .f))
+key-is c = c .key .ensures .0 ∙ first-key (now (begun (other c) .args .f)) (not-empty (other c))
+
 look-up-requires : tie.Need-look-up-requires
-look-up-requires c κs = let k = c .before .before .before .before in (begun k .pre .0, begun k .pre .1, not-empty k)
+look-up-requires c κs =
+    let m = c .before .before .before .before in
+    let k = other m in
+    (begun k .pre .0, begun k .pre .1, not-empty k, key-is m)
 
 fold-at-requires : tie.Need-fold-at-requires
 fold-at-requires c κs =
-    let k = c .before .before .before .before .before .before .before .before .before .before in
+    let m = c .before .before .before .before .before .before .before .before .before .before in
+    let k = other m in
     let s = begun k in
     let l = c .before .before .before .before .before .look-up in (
       s .pre .0,
@@ -42,6 +60,7 @@ fold-at-requires c κs =
       rw (read-back (l .result .weight) (search needs)) (l .ensures .1),
       rw (toZ-ofZ (s .fits .amount)) (s .pre .3),
       rw (toZ-ofZ (s .fits .amount)) (s .pre .4),
+      key-is m,
     )
 
 same-length : tie.Need-same-length
@@ -59,7 +78,7 @@ same-length-4 c = search needs
 returns-2 : tie.Need-returns-2
 returns-2 c =
     let f = c .before .before .before .before .before .before .before in
-    let s = begun (f .before .before .before .before .before .before .before .before .before .before .before) in
+    let s = begun (other (f .before .before .before .before .before .before .before .before .before .before .before)) in
     rw (toZ-ofZ (s .fits .amount)) at (f .fold-at .ensures)
 
 pub fold-in-spec : {M : Type 1} → statement M
@@ -67,6 +86,8 @@ fold-in-spec =
     tie.close
     (tie.spec
     returns
+    shared-slice-read-key
+    key-requires
     look-up-requires
     fold-at-requires
     same-length

@@ -1,13 +1,13 @@
 -- `insert_line` meets its contract: the line comes into the first free row, and the index has an entry for it at its place.
-use mathlib.Core.Path.{_≡_, ap, _∙_}
-use Prim.Native.Nat.{ℕ, _+_, _*_, _<_}
+use mathlib.Core.Path.{_≡_, ap}
+use Prim.Native.Nat.{ℕ, _+_, _*_, _^_, _<_}
 use native.Mathlib.Omega.{arith}
 use lib.ListN.{length}
 use denote.Ref.{now}
 use mir.Facts.{toZ-ofZ}
 use borrow.Author.Needs.{needs}
 use Rattle.configuration.specs.Index.{firstKey}
-use Rattle.configuration.proofs.Tables.{some-length, first-key, row-in-table, inserted}
+use Rattle.configuration.proofs.Tables.{first-small, row-in-table, inserted}
 use Rattle.configuration.proofs.table.insert_line.Statement.{statement}
 use Rattle.configuration.proofs.table.insert_line.Tie as tie
 
@@ -24,17 +24,15 @@ cast-lines c = search needs
 row-at-requires : tie.Need-row-at-requires
 row-at-requires c κs = search needs
 
-shared-slice-read-key : tie.Need-shared-slice-read-key
-shared-slice-read-key c = some-length (now (begun (c .before .before) .args .f)) (begun (c .before .before) .pre .4)
-
-key-requires : tie.Need-key-requires
-key-requires c κs = search needs
+-- the key is small
+first-bound : (c : tie.After-row-at) → begun c .args .first < 2 ^ 38
+first-bound c = let s = begun c in rw (s .pre .6) (first-small (now (s .args .f)) (s .pre .4) (c .before .before .before .shared-slice-known .given 0 .fits))
 
 mul-insert-entry : tie.Need-mul-insert-entry
-mul-insert-entry c = search needs
+mul-insert-entry c = omega (arith, first-bound (c .before))
 
 add-insert-entry : tie.Need-add-insert-entry
-add-insert-entry c = search needs
+add-insert-entry c = omega (arith, first-bound (c .before))
 
 insert-entry-requires : tie.Need-insert-entry-requires
 insert-entry-requires c κs = search needs
@@ -44,7 +42,7 @@ mul-write c = search needs
 
 write-requires : tie.Need-write-requires
 write-requires c κs =
-    let r = c .before .before .before .before .before .before .before in
+    let r = c .before .before .before .before .before in
     omega (arith, in-table r, begun r .pre .0 .terms-length, begun r .pre .5)
 
 mul-weight : tie.Need-mul-weight
@@ -52,7 +50,7 @@ mul-weight c = search needs
 
 slice-set-from-weight : tie.Need-slice-set-from-weight
 slice-set-from-weight c =
-    let r = c .before .before .before .before .before .before .before .before .before .before in
+    let r = c .before .before .before .before .before .before .before .before in
     omega (arith, in-table r, begun r .pre .0 .weights-length)
 
 cast-counts : tie.Need-cast-counts
@@ -62,10 +60,10 @@ mul-counts : tie.Need-mul-counts
 mul-counts c = search needs
 
 slice-write-counts : tie.Need-slice-write-counts
-slice-write-counts c = in-table (c .before .before .before .before .before .before .before .before .before .before)
+slice-write-counts c = in-table (c .before .before .before .before .before .before .before .before)
 
-add-t18 : tie.Need-add-t18
-add-t18 c = search needs
+add-t24 : tie.Need-add-t24
+add-t24 c = search needs
 
 same-length : tie.Need-same-length
 same-length c = search needs
@@ -81,14 +79,13 @@ same-length-4 c = search needs
 
 returns : tie.Need-returns
 returns c =
-    let r = c .before .before .before .before .before .before .before .before .before .before .before in
+    let r = c .before .before .before .before .before .before .before .before .before in
     let s = begun r in
     let a = s .args in
-    let k = c .before .before .before .before .before .before .before .before .key in
     let i = c .before .before .before .before .before .before .before .insert-entry in
     let w = c .before .before .before .write in
     let n = r .row-at .result in
-    let e : 128 * k .result + n ≡ 128 * firstKey (now (a .f)) + n = ap (λ (x : ℕ). 128 * x + n) (k .ensures .0 ∙ first-key (now (a .f)) (s .pre .4)) in
+    let e : 128 * a .first + n ≡ 128 * firstKey (now (a .f)) + n = ap (λ (x : ℕ). 128 * x + n) (s .pre .6) in
     rw (toZ-ofZ (s .fits .weight))
     (inserted (s .pre .0) (s .pre .1) (a .at) n (now (a .f)) (a .weight) (s .pre .2) (s .pre .3) (s .pre .5) (r .row-at .ensures) e (i .ensures) (w .ensures))
 
@@ -98,8 +95,6 @@ insert-line-spec =
     (tie.spec
     cast-lines
     row-at-requires
-    shared-slice-read-key
-    key-requires
     mul-insert-entry
     add-insert-entry
     insert-entry-requires
@@ -110,7 +105,7 @@ insert-line-spec =
     cast-counts
     mul-counts
     slice-write-counts
-    add-t18
+    add-t24
     same-length
     same-length-2
     same-length-3
