@@ -1,6 +1,7 @@
--- The tests of an amount, the bits of its negation and its double, what the answer for an exact result says of that result, and changes that are folded
--- one by one into a table of four.
+-- The tests of an amount, the bits of its negation and its double, whether an exact result is short enough, and changes that are folded one by one into a
+-- table of four.
 use mathlib.Core.Path.{_≡_, refl, sym, ap, subst, _∙_}
+use mathlib.Core.Logic.{_⊎_, inl, inr}
 use mathlib.Core.Bool.{true, false, not, and-false, true≢false}
 use mathlib.Core.List.{List, [], _∷_, _++_}
 use Prim.Native.Nat.{ℕ, zero, suc, _+_, _-_, _≤_, _<_, _^_}
@@ -16,13 +17,12 @@ use mir.Val.{SFits, toZ, ofZ}
 use mir.Facts.{toZ-ofZ}
 use borrow.Author.Tests.{ltb-true, ltb-false, le-leb, lt-leb, ne-eqb}
 use Rattle.run.specs.Boolean.{of-true}
-use Rattle.polynomial.specs.Polynomial.{sumOf, productOf, Below, termsOf, outcomeOf}
-use Rattle.polynomial.specs.PolynomialLaws.{product-plus-one, terms-of}
-use Rattle.polynomial.specs.declared.Outcome.{Outcome}
+use Rattle.polynomial.specs.Polynomial.{sumOf, productOf, Below}
+use Rattle.polynomial.specs.PolynomialLaws.{product-plus-one}
 use Rattle.configuration.specs.Weight.{limit, inRange}
 use Rattle.configuration.specs.Configuration.{Line, line, weight, add, addAll, negated, Every, isPolynomial, linesFit}
 use Rattle.configuration.specs.ConfigurationLaws.{all-ordered, all-fit}
-use Rattle.configuration.specs.FormLaws.{polynomial-below}
+use Rattle.configuration.specs.FormLaws.{polynomial-below, polynomial-short}
 use Rattle.configuration.specs.Memory.{Memory, imageOf, formed, linesOf}
 use Rattle.configuration.specs.MemoryLaws.{every-append, fits-short, there-and-back, image-formed}
 use Rattle.configuration.specs.Replacement.{Small}
@@ -32,7 +32,7 @@ use Rattle.configuration.specs.TurnLaws.{empty, four-kept, four-memory}
 use Rattle.configuration.specs.declared.Head.{Head}
 use Rattle.configuration.proofs.Replacements.{all-snoc, small-snoc, add-short, all-short}
 use Rattle.calculus.specs.Calculus.{conclusions, changes, amountFits, allShort}
-use Rattle.calculus.specs.CalculusLaws.{changes-fit}
+use Rattle.calculus.specs.CalculusLaws.{none-changed, changes-fit}
 use Rattle.calculus.specs.declared.plan.Plan.{Plan}
 use Rattle.calculus.specs.declared.Rule.{Rule}
 use Rattle.calculus.specs.declared.Rule.the-variants.{Sum, Prod}
@@ -85,20 +85,17 @@ module _ (w : ℤ) (h : T (inRange w)) where
   pub doubled-is : (v : ℤ) → v ≡ w → toZ w64 (ofZ w64 (v +ℤ v)) ≡ w +ℤ w
   doubled-is v e = ap (λ (z : ℤ). toZ w64 (ofZ w64 (z +ℤ z))) e ∙ toZ-ofZ doubled-fits
 
--- ---- the answer for an exact result
-module _ (r : Outcome) (l : List ℕ) (e : r ≡ outcomeOf l) where
-  size : r .length ≡ length l
-  size = ap (λ (o : Outcome). o .length) e
+-- ---- whether an exact result l, of r terms, is short enough
+module _ (r : ℕ) (l : List ℕ) (e : r ≡ length l) where
+  pub long : 64 < r → leb (length l) 64 ≡ false
+  long h = lt-leb (length l) 64 (omega arith)
 
-  pub long : 64 < r .length → leb (length l) 64 ≡ false
-  long h = lt-leb (length l) 64 (omega (arith, size))
+  pub short : r ≤ 64 → leb (length l) 64 ≡ true
+  short h = le-leb (length l) 64 (omega arith)
 
-  pub short : r .length ≤ 64 → leb (length l) 64 ≡ true
-  short h = le-leb (length l) 64 (omega (arith, size))
-
-  -- the polynomial itself, where it has at most 64 terms
-  pub terms-are : r .length ≤ 64 → termsOf (r .polynomial) ≡ l
-  terms-are h = terms-of l (r .polynomial) (rw (e, short h))
+-- the operands, as sum and product ask for them, with an area of 64
+pub lent : (n : ℕ) (f g : List ℕ) → T (isPolynomial n f) → T (isPolynomial n g) → (length f ≤ 64) × (length g ≤ 64) × (length (replicate {A = ℕ} 64 0) ≡ 64)
+lent n f g h k = (polynomial-short n f h, polynomial-short n g k, refl)
 
 -- the terms of a problem's polynomials are 32-bit numbers
 pub below-32 : (n : ℕ) (f : List ℕ) → n ≤ 32 → T (isPolynomial n f) → Below 32 f
@@ -108,10 +105,9 @@ below-32 n f h k = go f (polynomial-below n f k)
     go [] k = tt
     go (t ∷ f) k = (le-trans (k .0) (pow-mono h), go f (k .1))
 
--- f g + f, worked out from the answer for f g, is f (g + 1)
-pub plus-one : (r : Outcome) (f g p : List ℕ) → Below 32 f → Below 32 g → p ≡ productOf f g → r ≡ outcomeOf (sumOf p f)
-    → r ≡ outcomeOf (productOf f (sumOf g (0 ∷ [])))
-plus-one r f g p a b h e = e ∙ ap outcomeOf (ap (λ (x : List ℕ). sumOf x f) h ∙ sym (product-plus-one 32 f g a b))
+-- f g + f, worked out from f g, is f (g + 1)
+pub plus-one : (f g p : List ℕ) → Below 32 f → Below 32 g → p ≡ productOf f g → sumOf p f ≡ productOf f (sumOf g (0 ∷ []))
+plus-one f g p a b h = ap (λ (x : List ℕ). sumOf x f) h ∙ sym (product-plus-one 32 f g a b)
 
 -- ---- no change of a rule is as large as 2 ^ 42
 twice-small : (w : ℤ) → T (inRange w) → (mag w < 2 ^ 42) × ((mag (negℤ w) < 2 ^ 42) × (mag (w +ℤ w) < 2 ^ 42))
@@ -202,6 +198,21 @@ pub made-unfit : (r : Rule) {n : ℕ} (f g : List ℕ) (w : ℤ) {is ts : List �
 made-unfit r f g w {is = is} {ts = ts} {ws = ws} {cs = cs} p k e d =
     let u : p .fits ≡ false = ap (λ (x : Plan). x .fits) e in
     (u ∙ sym d, (λ z. absurd (true≢false (sym z ∙ u)), subst (λ (h : Head). Kept 4 h is ts ws cs) (sym (ap (λ (x : Plan). x .head) e)) (k .kept)))
+
+-- and so does one of PROD where f g or f (g + 1) has no term
+no-terms : (l : List ℕ) → length l ≡ 0 → l ≡ []
+no-terms [] e = refl
+no-terms (t ∷ l) e = let z : ⊥ = omega arith in absurd z
+
+pub made-none : {n : ℕ} (f g : List ℕ) (w : ℤ) {is ts : List ℕ} {ws : List ℤ} {cs : List ℕ} → Folded n [] (empty n) is ts ws cs
+    → T (isPolynomial n f) → T (isPolynomial n g) → allShort (conclusions Prod f g w) ≡ true
+    → (length (productOf f g) ≡ 0) ⊎ (length (productOf f (sumOf g (0 ∷ []))) ≡ 0) → Made Prod n f g w (record { fits = true; head = empty n }) is ts ws cs
+unfolding addAll
+made-none {n = n} f g w k hf hg d h = (sym d, (λ z. k .memory ∙ ap (imageOf 4 n) (sym (none-changed n f g w hf hg (go h))), k .kept))
+  where
+    go : (length (productOf f g) ≡ 0) ⊎ (length (productOf f (sumOf g (0 ∷ []))) ≡ 0) → (productOf f g ≡ []) ⊎ (productOf f (sumOf g (0 ∷ [])) ≡ [])
+    go (inl e) = inl (no-terms (productOf f g) e)
+    go (inr e) = inr (no-terms (productOf f (sumOf g (0 ∷ []))) e)
 
 made-few : (r : Rule) (f g : List ℕ) (w : ℤ) → length (changes r f g w) ≤ 4
 unfolding negated

@@ -1,5 +1,5 @@
--- Laws of the calculus: every rule keeps every cost, and so does a step, taken or refused; what a taken step passed and left; that a configuration that is
--- kept stays one; and the same of a step that is taken in lent memory.
+-- Laws of the calculus: every rule keeps every cost, and so does a step, taken or refused; where PROD changes nothing; what a taken step passed and left;
+-- that a configuration that is kept stays one; and the same of a step that is taken in lent memory.
 use mathlib.Core.Path.{_≡_, refl, sym, ap, ap₂, _∙_}
 use mathlib.Core.Logic.{_⊎_, inl, inr}
 use mathlib.Core.Bool.{Bool, true, false, not, _&&_, _||_, cond, true≢false}
@@ -14,14 +14,15 @@ use lib.Pow.{pow-pos}
 use Rattle.run.specs.Boolean.{is-true, of-true, both, cond-ind}
 use Rattle.run.specs.F2.{_⊕_}
 use Rattle.run.specs.Run.{sorted, Sorted}
+use Rattle.run.specs.RunLaws.{normal-id}
 use Rattle.term.specs.Term.{before}
-use Rattle.polynomial.specs.Polynomial.{eval, sumOf, Below}
-use Rattle.polynomial.specs.PolynomialLaws.{eval-sum, eval-product, eval-one, sum-ordered, product-ordered, sum-below, product-below}
+use Rattle.polynomial.specs.Polynomial.{eval, sumOf, productOf, Below}
+use Rattle.polynomial.specs.PolynomialLaws.{written, eval-sum, eval-product, eval-one, sum-ordered, product-ordered, sum-below, product-below, product-plus-one}
 use Rattle.configuration.specs.Weight.{isNegative, share}
 use Rattle.configuration.specs.Configuration.{Line, line, some, same, total, cost, weight, addAll, negated, Ordered, Every, below, isPolynomial, linesFit, weightsFit, anyNegative}
-use Rattle.configuration.specs.Sums.{solve, o, v, _⊞_}
-use Rattle.configuration.specs.ConfigurationLaws.{same-is, total-negated, total-append, cost-all, weight-all, all-ordered, weight-behind, weight-head, all-fit}
-use Rattle.configuration.specs.FormLaws.{polynomial-below, polynomial-is, sum-sign}
+use Rattle.configuration.specs.Sums.{share-neg, solve, o, v, _⊞_, ⊟}
+use Rattle.configuration.specs.ConfigurationLaws.{same-is, same-none, total-negated, total-append, cost-all, weight-all, all-ordered, weight-behind, weight-head, all-fit}
+use Rattle.configuration.specs.FormLaws.{polynomial-below, polynomial-sorted, polynomial-is, sum-sign}
 use Rattle.configuration.specs.Memory.{Memory, linesOf, imageOf, sized, wellFormed}
 use Rattle.configuration.specs.Replacement.{Step, taken, refused, unless, within}
 use Rattle.configuration.specs.MemoryLaws.{well-formed, variables-bound, every-append, fits-short, there-and-back, image-wellFormed, formed-parts}
@@ -31,6 +32,8 @@ use Rattle.calculus.specs.declared.Rule.the-variants.{Sum, Prod}
 use Rattle.calculus.specs.declared.Mode.{Mode}
 use Rattle.calculus.specs.declared.Mode.the-variants.{Plain}
 use Rattle.run.specs.Boolean as B
+use Rattle.polynomial.specs.PolynomialLaws as P
+use Rattle.configuration.specs.ConfigurationLaws as C
 
 -- ---- every rule is strongly sound: its conclusions cost what its premises cost, at every assignment
 sum-sound : (a b : Bool) (w : ℤ) → share a w +ℤ (share b w +ℤ pos 0) ≡ share (a ⊕ b) w +ℤ (share (a && b) (w +ℤ w) +ℤ pos 0)
@@ -60,6 +63,44 @@ changes-cost r f g w α = total-changes (λ p. eval p α) r f g w ∙ rw (sound 
 
 pub stepped-cost : (r : Rule) (f g : List ℕ) (w : ℤ) (L : List Line) (α : ℕ) → cost (addAll (changes r f g w) L) α ≡ cost L α
 stepped-cost r f g w L α = cost-all (changes r f g w) L α ∙ rw (changes-cost r f g w α) (+ℤ-idr (cost L α))
+
+-- ---- where f g or f (g + 1) is 0 the other is f, and PROD changes nothing
+rest-whole : (n : ℕ) (f g : List ℕ) → Below n f → Below n g → Sorted before f → productOf f g ≡ [] → productOf f (sumOf g (0 ∷ [])) ≡ f
+rest-whole n f g a b s e = product-plus-one n f g a b ∙ ap (λ (p : List ℕ). sumOf p f) e ∙ normal-id before written f s
+
+product-whole : (n : ℕ) (f g : List ℕ) → Below n f → Below n g → Sorted before f → productOf f (sumOf g (0 ∷ [])) ≡ [] → productOf f g ≡ f
+unfolding eval
+product-whole n f g a b s e = P.unique n (productOf f g) f (product-ordered f g) s (product-below n f g a b) a
+    (λ α k. eval-product f g α ∙ at (eval f α) (eval g α) (gone α))
+  where
+    gone : (α : ℕ) → (eval f α && (eval g α ⊕ true)) ≡ false
+    gone α = sym (eval-product f (sumOf g (0 ∷ [])) α ∙ rw (eval-sum g (0 ∷ []) α, eval-one α)) ∙ ap (λ (p : List ℕ). eval p α) e
+
+    at : (x y : Bool) → (x && (y ⊕ true)) ≡ false → (x && y) ≡ x
+    at true true h = refl
+    at true false h = absurd (true≢false h)
+    at false y h = refl
+
+pub none-changed : (n : ℕ) (f g : List ℕ) (w : ℤ) → T (isPolynomial n f) → T (isPolynomial n g)
+    → (productOf f g ≡ []) ⊎ (productOf f (sumOf g (0 ∷ [])) ≡ []) → addAll (changes Prod f g w) [] ≡ []
+unfolding total negated
+none-changed n f g w hf hg h = C.unique (addAll (changes Prod f g w) []) [] (all-ordered (changes Prod f g w) [] tt) tt
+    (λ p k. weight-all p k (changes Prod f g w) [] ∙ go p k h)
+  where
+    a : Below n f
+    a = polynomial-below n f hf
+
+    b : Below n g
+    b = polynomial-below n g hg
+
+    s : Sorted before f
+    s = polynomial-sorted n f hf
+
+    go : (p : List ℕ) → T (some p) → (productOf f g ≡ []) ⊎ (productOf f (sumOf g (0 ∷ [])) ≡ []) → pos 0 +ℤ weight (changes Prod f g w) p ≡ pos 0
+    go p k (inl e) = rw (e, rest-whole n f g a b s e, same-none p k, share-neg (same p f) w)
+        (solve (share (same p f) w ∷ []) (o ⊞ (⊟ (v 0) ⊞ (o ⊞ (v 0 ⊞ o)))) o tt)
+    go p k (inr e) = rw (e, product-whole n f g a b s e, same-none p k, share-neg (same p f) w)
+        (solve (share (same p f) w ∷ []) (o ⊞ (⊟ (v 0) ⊞ (v 0 ⊞ (o ⊞ o)))) o tt)
 
 -- ---- what a step passed, if it was taken
 pub unless-taken : (b : Bool) (n : ℕ) (s : Step) {M : List Line} → unless b n s ≡ taken M → (b ≡ true) × (s ≡ taken M)

@@ -3,9 +3,7 @@
 use crate::Rule;
 use configuration::Head;
 use configuration::table::fold_in;
-use polynomial::front;
-use polynomial::product_of;
-use polynomial::sum_of;
+use polynomial::Polynomial;
 ghost use mathlib.Core.Path.{_≡_};
 ghost use mathlib.Core.Bool.{true, false};
 ghost use mathlib.Core.List.{[], _∷_};
@@ -56,12 +54,14 @@ fn plan_sum(
     ensures made { λ r. ⌜ (r .fits ≡ true → indexedOf (r .head) (now (index .exit)) (now (terms .exit)) (now (weights .exit)) (now (counts .exit)) ≡ imageOf 4 variables (addAll (changes Sum (now (f .entry)) (now (g .entry)) amount) [])) ⌝ }
     ensures kept { λ r. ⌜ Kept 4 (r .head) (now (index .exit)) (now (terms .exit)) (now (weights .exit)) (now (counts .exit)) ⌝ }
 {
-    let sum = sum_of(f, g);
-    let product = product_of(f, g);
-    if 64 < sum.length {
+    let mut sum = [0u32; 64];
+    let m = Polynomial::sum(f, g, &mut sum);
+    if 64 < m {
         return unfit(variables);
     }
-    if 64 < product.length {
+    let mut product = [0u32; 64];
+    let n = Polynomial::product(f, g, &mut product);
+    if 64 < n {
         return unfit(variables);
     }
     let none = Head {
@@ -70,9 +70,9 @@ fn plan_sum(
     };
     let one = fold_in(none, index, terms, weights, counts, f, -amount);
     let two = fold_in(one, index, terms, weights, counts, g, -amount);
-    let s = front(&sum.polynomial.terms, sum.polynomial.count);
+    let s = &sum[..m];
     let three = fold_in(two, index, terms, weights, counts, s, amount);
-    let p = front(&product.polynomial.terms, product.polynomial.count);
+    let p = &product[..n];
     let twice = amount + amount;
     let head = fold_in(three, index, terms, weights, counts, p, twice);
     Plan { fits: true, head }
@@ -95,22 +95,37 @@ fn plan_prod(
     ensures made { λ r. ⌜ (r .fits ≡ true → indexedOf (r .head) (now (index .exit)) (now (terms .exit)) (now (weights .exit)) (now (counts .exit)) ≡ imageOf 4 variables (addAll (changes Prod (now (f .entry)) (now (g .entry)) amount) [])) ⌝ }
     ensures kept { λ r. ⌜ Kept 4 (r .head) (now (index .exit)) (now (terms .exit)) (now (weights .exit)) (now (counts .exit)) ⌝ }
 {
-    let product = product_of(f, g);
-    if 64 < product.length {
+    let mut product = [0u32; 64];
+    let n = Polynomial::product(f, g, &mut product);
+    if 64 < n {
         return unfit(variables);
     }
-    let p = front(&product.polynomial.terms, product.polynomial.count);
-    let rest = sum_of(p, f);
-    if 64 < rest.length {
+    let p = &product[..n];
+    let mut rest = [0u32; 64];
+    let m = Polynomial::sum(p, f, &mut rest);
+    if 64 < m {
         return unfit(variables);
     }
     let none = Head {
         variables,
         lines: 0,
     };
+    // Where f g or f (g + 1) is 0 the other is f, which gets back what it loses: nothing changes.
+    if n == 0 {
+        return Plan {
+            fits: true,
+            head: none,
+        };
+    }
+    if m == 0 {
+        return Plan {
+            fits: true,
+            head: none,
+        };
+    }
     let one = fold_in(none, index, terms, weights, counts, f, -amount);
     let two = fold_in(one, index, terms, weights, counts, p, amount);
-    let q = front(&rest.polynomial.terms, rest.polynomial.count);
+    let q = &rest[..m];
     let head = fold_in(two, index, terms, weights, counts, q, amount);
     Plan { fits: true, head }
 }

@@ -1,11 +1,9 @@
 // Products of polynomials that differ in few variables: apart from the variables that all products of their terms have, each
 // subset of the others has a place in a table, and each product of two terms toggles its place. These functions are for this
 // crate.
-use crate::Outcome;
-use crate::Polynomial;
 use crate::clause::subsets;
-use crate::collect;
 use crate::ordered_keys;
+use crate::write_masks;
 ghost use mathlib.Core.Path.{_≡_};
 ghost use mathlib.Core.List.{map};
 ghost use Prim.Native.Nat.{ℕ, _^_, _≤_, _<_};
@@ -15,7 +13,7 @@ ghost use Rattle.term.specs.Term.{degreeOf};
 ghost use Rattle.run.specs.Run.{All, Sorted};
 ghost use Rattle.polynomial.specs.ClauseLaws.{ascending};
 ghost use Rattle.polynomial.specs.Few.{joined, variablesOf, shared, commonOf, varyingOf, digit, withDigits, indexOf, productIndices, toggled, chosen, mostVariables, suitable};
-ghost use Rattle.polynomial.specs.Polynomial.{normal, unions, productOf, outcomeOf};
+ghost use Rattle.polynomial.specs.Polynomial.{normal, unions, productOf};
 
 // The variables of a run of terms, joined to those of a mask.
 fn variables_with(mask: u32, terms: &[u32]) -> u32
@@ -160,23 +158,21 @@ fn choose(masks: &mut [u32], table: &[u8]) -> usize
     count
 }
 
-// The exact result whose terms are those of a run of masks, each joined to a mask that is apart from all of them. The run
-// ascends.
-fn arranged(fixed: u32, masks: &[u32]) -> Outcome
-    requires { ⌜ Sorted ascending (now masks) × All (λ t. bitAnd fixed t ≡ 0) (now masks) ⌝ }
-    ensures { λ r. ⌜ r ≡ outcomeOf (normal (map (bitOr fixed) (now (masks .entry)))) ⌝ }
+// Writes the sum of the masks of a run, each joined to a mask that is apart from all of them, to the front of an area, where it
+// fits. Answers how many terms it has. The run ascends.
+fn arranged(fixed: u32, masks: &[u32], out: &mut [u32]) -> usize
+    requires { ⌜ Sorted ascending (now masks) × All (λ t. bitAnd fixed t ≡ 0) (now masks) × (length (now out) ≡ 64) ⌝ }
+    ensures size { λ r. ⌜ r ≡ length (normal (map (bitOr fixed) (now (masks .entry)))) ⌝ }
+    ensures sum { λ r. ⌜ (r ≤ 64 → take r (now (out .exit)) ≡ normal (map (bitOr fixed) (now (masks .entry)))) ⌝ }
 {
     let count = masks.len();
     if 64 < count {
-        return Outcome {
-            length: count,
-            polynomial: Polynomial::ZERO,
-        };
+        return count;
     }
     let mut keys = [0u64; 64];
     let mut spare = [0u64; 64];
     let n = ordered_keys(fixed, masks, &mut keys, &mut spare);
-    collect(&keys[..n])
+    write_masks(&keys[..n], out)
 }
 
 // The product of two runs of terms, of which one mask has the variables that every product has, and another the rest, by a
@@ -188,15 +184,17 @@ fn product_by(
     g: &[u32],
     masks: &mut [u32],
     table: &mut [u8],
-) -> Outcome
+    out: &mut [u32],
+) -> usize
     requires { ⌜ (length (now f) ≤ 64) × (length (now g) ≤ 64) × (fixed ≡ commonOf (now f) (now g)) × (mask ≡ varyingOf (now f) (now g)) × (degreeOf mask ≤ 12)
-        × (2 ^ degreeOf mask ≤ length (now masks)) × (2 ^ degreeOf mask ≤ length (now table)) × (now table ≡ replicate (length (now table)) 0) ⌝ }
-    ensures { λ r. ⌜ r ≡ outcomeOf (productOf (now (f .entry)) (now (g .entry))) ⌝ }
+        × (2 ^ degreeOf mask ≤ length (now masks)) × (2 ^ degreeOf mask ≤ length (now table)) × (now table ≡ replicate (length (now table)) 0) × (length (now out) ≡ 64) ⌝ }
+    ensures size { λ r. ⌜ r ≡ length (productOf (now (f .entry)) (now (g .entry))) ⌝ }
+    ensures product { λ r. ⌜ (r ≤ 64 → take r (now (out .exit)) ≡ productOf (now (f .entry)) (now (g .entry))) ⌝ }
 {
     toggle_products(mask, f, g, table);
     let places = subsets(mask, masks);
     let count = choose(&mut masks[..places], table);
-    arranged(fixed, &masks[..count])
+    arranged(fixed, &masks[..count], out)
 }
 
 // How many variables there may be for so many pairs of terms, if a table is to pay.
@@ -223,18 +221,19 @@ pub fn suits(f: &[u32], g: &[u32]) -> bool
 
 // The product of two runs of terms whose products differ in at most 12 variables. Few variables get small areas, since an area
 // is cleared each time.
-pub fn product_few(f: &[u32], g: &[u32]) -> Outcome
-    requires { ⌜ (length (now f) ≤ 64) × (length (now g) ≤ 64) × (degreeOf (varyingOf (now f) (now g)) ≤ 12) ⌝ }
-    ensures { λ r. ⌜ r ≡ outcomeOf (productOf (now (f .entry)) (now (g .entry))) ⌝ }
+pub fn product_few(f: &[u32], g: &[u32], out: &mut [u32]) -> usize
+    requires { ⌜ (length (now f) ≤ 64) × (length (now g) ≤ 64) × (degreeOf (varyingOf (now f) (now g)) ≤ 12) × (length (now out) ≡ 64) ⌝ }
+    ensures size { λ r. ⌜ r ≡ length (productOf (now (f .entry)) (now (g .entry))) ⌝ }
+    ensures product { λ r. ⌜ (r ≤ 64 → take r (now (out .exit)) ≡ productOf (now (f .entry)) (now (g .entry))) ⌝ }
 {
     let fixed = common(f, g);
     let mask = varying(f, g);
     if term::degree(mask) <= 8 {
         let mut masks = [0u32; 256];
         let mut table = [0u8; 256];
-        return product_by(fixed, mask, f, g, &mut masks, &mut table);
+        return product_by(fixed, mask, f, g, &mut masks, &mut table, out);
     }
     let mut masks = [0u32; 4096];
     let mut table = [0u8; 4096];
-    product_by(fixed, mask, f, g, &mut masks, &mut table)
+    product_by(fixed, mask, f, g, &mut masks, &mut table, out)
 }

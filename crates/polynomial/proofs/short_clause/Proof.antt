@@ -1,15 +1,15 @@
 -- `short_clause` meets its contract: its terms are the subsets of the plain literals, each with all the negated ones.
-use mathlib.Core.Path.{_≡_, sym, ap, _∙_}
+use mathlib.Core.Path.{_≡_, sym}
 use Prim.Native.Nat.{_≤_}
 use native.Mathlib.Omega.{arith}
-use lib.ListN.{length}
+use lib.ListN.{length, take}
 use lib.Pow.{pow-mono}
 use lib.Seq.{length-take-le}
 use borrow.Author.Needs.{needs}
 use Rattle.term.specs.Term.{degreeOf}
 use Rattle.polynomial.specs.ClauseLaws.{length-subsets-le}
-use Rattle.polynomial.specs.Polynomial.{outcomeOf}
-use Rattle.polynomial.proofs.Keys.{clause-masks}
+use Rattle.polynomial.specs.Polynomial.{clauseOf}
+use Rattle.polynomial.proofs.Keys.{clause-masks, outcome-short}
 use Rattle.polynomial.proofs.short_clause.Statement.{statement}
 use Rattle.polynomial.proofs.short_clause.Tie as tie
 
@@ -49,17 +49,26 @@ array-share-prefix-keys c =
     let d = c .before .before .ordered-keys in
     omega (arith, d .ensures .0, d .kept .1 .1 .0, few (c .before .before .before .before .before .before .before), length-take-le (r .result) (r .last .1 .0) (array-share-prefix-masks (c .before .before .before .before .before .before)))
 
-slice-aggregate-collect : tie.Need-slice-aggregate-collect
-slice-aggregate-collect c = sym (length-take-le _ _ (array-share-prefix-keys (c .before)))
+slice-aggregate-write-masks : tie.Need-slice-aggregate-write-masks
+slice-aggregate-write-masks c = sym (length-take-le _ _ (array-share-prefix-keys (c .before)))
 
-collect-requires : tie.Need-collect-requires
-collect-requires c κs = search needs
+slice-aggregate-write-masks-2 : tie.Need-slice-aggregate-write-masks-2
+slice-aggregate-write-masks-2 c = search needs
+
+write-masks-requires : tie.Need-write-masks-requires
+write-masks-requires c κs = search needs
 
 returns : tie.Need-returns
 returns c =
-    let s = c .before .before .before .before .before .before .before .before .before .before .before in
-    c .collect .ensures
-    ∙ ap outcomeOf (clause-masks (s .args .plain) (s .args .negated) _ _ (s .fits .plain .fits) (s .fits .negated .fits) (c .before .before .before .before .before .before .before .before .before .subsets .ensures .1) (c .before .before .before .before .ordered-keys .ensures .1))
+    let s = c .before .before .before .before .before .before .before .before .before .before .before .before .before in
+    let p = s .args .plain in
+    let n = s .args .negated in
+    let w = c .before .write-masks in
+    let k = c .before .before .before .before .before .before .ordered-keys in
+    let long = length-take-le (k .result) (k .last .1 .1 .0) (array-share-prefix-keys (c .before .before .before .before)) in
+    outcome-short (clauseOf p n) (take (k .result) (k .last .1 .1 .0)) (w .last .1 .0) (w .result)
+    (clause-masks p n _ _ (s .fits .plain .fits) (s .fits .negated .fits) (c .before .before .before .before .before .before .before .before .before .before .before .subsets .ensures .1) (k .ensures .1))
+    (w .ensures) (omega (arith, w .ensures .0, array-share-prefix-keys (c .before .before .before .before), k .kept .1 .1 .0))
 
 pub short-clause-spec : {M : Type 1} → statement M
 short-clause-spec =
@@ -73,6 +82,7 @@ short-clause-spec =
     slice-aggregate-ordered-keys-3
     ordered-keys-requires
     array-share-prefix-keys
-    slice-aggregate-collect
-    collect-requires
+    slice-aggregate-write-masks
+    slice-aggregate-write-masks-2
+    write-masks-requires
     returns)

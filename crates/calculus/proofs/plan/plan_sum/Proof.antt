@@ -7,6 +7,7 @@ use native.Mathlib.Omega.{arith}
 use lib.Dec.{T}
 use lib.IntN.{ℤ, pos, _+ℤ_, _-ℤ_, negℤ}
 use lib.ListN.{take}
+use lib.Seq.{length-take-le}
 use denote.Ref.{now}
 use mir.Syntax.{w64}
 use mir.Val.{toZ, ofZ}
@@ -15,14 +16,13 @@ use borrow.Author.Needs.{needs}
 use Rattle.run.specs.Boolean.{of-true}
 use Rattle.polynomial.specs.Polynomial.{sumOf, productOf}
 use Rattle.configuration.specs.Configuration.{Line, Every, isPolynomial, negated}
-use Rattle.configuration.specs.FormLaws.{polynomial-short}
 use Rattle.configuration.specs.Replacement.{Small}
 use Rattle.configuration.specs.TurnLaws.{empty}
 use Rattle.configuration.specs.declared.Head.{Head}
 use Rattle.calculus.specs.Calculus.{conclusions, changes, allShort}
 use Rattle.calculus.specs.CalculusLaws.{changes-fit}
 use Rattle.calculus.specs.declared.Rule.the-variants.{Sum}
-use Rattle.calculus.proofs.Plans.{negated-fits, negated-is, doubled-fits, doubled-is, small-changes, long, short, terms-are, Folded, folded-none, fold-asked, fold-given, made-unfit}
+use Rattle.calculus.proofs.Plans.{negated-fits, negated-is, doubled-fits, doubled-is, small-changes, lent, long, short, Folded, folded-none, fold-asked, fold-given, made-unfit}
 use Rattle.calculus.proofs.plan.plan_sum.Statement.{statement}
 use Rattle.calculus.proofs.plan.plan_sum.Tie as tie
 
@@ -62,17 +62,23 @@ none s =
 
 -- ---- where both results are short enough
 abbrev begun : tie.Else2 → tie.Start
-begun c = c .before .before .before .before .before .before .before .before .before
+begun c = c .before .before .before .before .before .before .before .before .before .before .before .before .before
 
 fits : (c : tie.Else2) → allShort (conclusions Sum (left (begun c)) (right (begun c)) (begun c .args .amount)) ≡ true
 unfolding allShort
 fits c =
     let s = begun c in
-    let k = c .before .before .before .sum-of in
-    let m = c .before .before .product-of in
-    let e = short (k .result) (sumOf (left s) (right s)) (k .ensures) (c .before .if1 .left) in
-    let d = short (m .result) (productOf (left s) (right s)) (m .ensures) (c .if2 .left) in
+    let k = c .before .before .before .before .before .before .sum2 in
+    let m = c .before .before .product2 in
+    let e = short (k .result) (sumOf (left s) (right s)) (k .ensures .0) (c .before .before .before .before .if1 .left) in
+    let d = short (m .result) (productOf (left s) (right s)) (m .ensures .0) (c .if2 .left) in
     rw (e, d)
+
+sum-is : (c : tie.Else2) → (let k = c .before .before .before .before .before .before .sum2 in take (k .result) (k .last .1 .1 .0) ≡ sumOf (left (begun c)) (right (begun c)))
+sum-is c = c .before .before .before .before .before .before .sum2 .ensures .1 (c .before .before .before .before .if1 .left)
+
+product-is : (c : tie.Else2) → (let k = c .before .before .product2 in take (k .result) (k .last .1 .1 .0) ≡ productOf (left (begun c)) (right (begun c)))
+product-is c = c .before .before .product2 .ensures .1 (c .if2 .left)
 
 polynomials : (c : tie.Else2) → Every (λ p. T (isPolynomial (begun c .args .variables) p)) (changed (begun c))
 polynomials c =
@@ -104,15 +110,8 @@ two c =
     fold-given (one (past-one c)) (omega arith) refl (lost s) (s .pre .3) (small s .1 .0) (c .fold-in2 .ensures)
 
 -- the third is of the sum, and the fourth of the product
-abbrev past-two : tie.After-front → tie.After-fold-in2
-past-two c = c .before .before .before .before .before .before .before .before .before .before .before
-
-sum-is : (c : tie.After-front) → (let s = begun (at-two (past-two c)) in now (c .front .result) ≡ sumOf (left s) (right s))
-sum-is c =
-    let k = at-two (past-two c) in
-    let s = begun k in
-    let r = k .before .before .before .sum-of in
-    c .front .ensures ∙ terms-are (r .result) (sumOf (left s) (right s)) (r .ensures) (k .before .if1 .left)
+abbrev past-two : tie.After-sum4 → tie.After-fold-in2
+past-two c = c .before .before .before .before .before .before .before .before
 
 abbrev at-three : tie.After-fold-in3 → tie.Else2
 at-three c = at-two (past-two (c .before .before .before .before .before))
@@ -124,17 +123,10 @@ three c =
     let h = c .before .before .before .before .before in
     let k = at-three c in
     let s = begun k in
-    fold-given (two (past-two h)) (omega arith) (sum-is h) (gained s) (polynomials k .1 .1 .0) (small s .1 .1 .0) (c .fold-in3 .ensures)
+    fold-given (two (past-two h)) (omega arith) (sum-is k) (gained s) (polynomials k .1 .1 .0) (small s .1 .1 .0) (c .fold-in3 .ensures)
 
-abbrev past-three : tie.After-front2 → tie.After-fold-in3
-past-three c = c .before .before .before .before .before .before .before .before .before .before .before
-
-product-is : (c : tie.After-front2) → (let s = begun (at-three (past-three c)) in now (c .front2 .result) ≡ productOf (left s) (right s))
-product-is c =
-    let k = at-three (past-three c) in
-    let s = begun k in
-    let r = k .before .before .product-of in
-    c .front2 .ensures ∙ terms-are (r .result) (productOf (left s) (right s)) (r .ensures) (k .if2 .left)
+abbrev past-three : tie.After-product4 → tie.After-fold-in3
+past-three c = c .before .before .before .before .before .before .before .before
 
 abbrev at-four : tie.After-fold-in4 → tie.Else2
 at-four c = at-three (past-three (c .before .before .before .before .before))
@@ -146,20 +138,16 @@ four c =
     let h = c .before .before .before .before .before in
     let k = at-four c in
     let s = begun k in
-    fold-given (three (past-three h)) (omega arith) (product-is h) (doubled s) (polynomials k .1 .1 .1 .0) (small s .1 .1 .1 .0) (c .fold-in4 .ensures)
+    fold-given (three (past-three h)) (omega arith) (product-is k) (doubled s) (polynomials k .1 .1 .1 .0) (small s .1 .1 .1 .0) (c .fold-in4 .ensures)
 
 abbrev last : tie.After-slice-known15 → tie.After-fold-in4
 last c = c .before .before .before .before .before .before .before
 
-sum-of-requires : tie.Need-sum-of-requires
-sum-of-requires c κs =
-    let s = c .before .before .before .before .before in
-    (polynomial-short (s .args .variables) (left s) (s .pre .2), polynomial-short (s .args .variables) (right s) (s .pre .3))
+slice-aggregate-sum : tie.Need-slice-aggregate-sum
+slice-aggregate-sum c = search needs
 
-product-of-requires : tie.Need-product-of-requires
-product-of-requires c κs =
-    let s = c .before .before .before .before .before .before in
-    (polynomial-short (s .args .variables) (left s) (s .pre .2), polynomial-short (s .args .variables) (right s) (s .pre .3))
+sum-requires : tie.Need-sum-requires
+sum-requires c κs = let s = c .before .before .before .before .before .before in lent (s .args .variables) (left s) (right s) (s .pre .2) (s .pre .3)
 
 unfit-requires : tie.Need-unfit-requires
 unfit-requires c κs = search needs
@@ -167,10 +155,16 @@ unfit-requires c κs = search needs
 returns : tie.Need-returns
 unfolding allShort
 returns c =
-    let s = c .before .before .before .before .before .before .before .before .before in
-    let k = c .before .before .before .sum-of in
-    let e = long (k .result) (sumOf (left s) (right s)) (k .ensures) (c .before .if1 .taken) in
+    let s = c .before .before .before .before .before .before .before .before .before .before in
+    let k = c .before .before .before .sum2 in
+    let e = long (k .result) (sumOf (left s) (right s)) (k .ensures .0) (c .before .if1 .taken) in
     made-unfit Sum (left s) (right s) (s .args .amount) (c .unfit .result) (none s) (c .unfit .ensures) (rw e)
+
+slice-aggregate-product : tie.Need-slice-aggregate-product
+slice-aggregate-product c = search needs
+
+product-requires : tie.Need-product-requires
+product-requires c κs = let s = c .before .before .before .before .before .before .before .before .before .before in lent (s .args .variables) (left s) (right s) (s .pre .2) (s .pre .3)
 
 unfit-requires-2 : tie.Need-unfit-requires-2
 unfit-requires-2 c κs = search needs
@@ -178,11 +172,11 @@ unfit-requires-2 c κs = search needs
 returns-2 : tie.Need-returns-2
 unfolding allShort
 returns-2 c =
-    let s = c .before .before .before .before .before .before .before .before .before .before in
-    let k = c .before .before .before .before .sum-of in
-    let m = c .before .before .before .product-of in
-    let e = short (k .result) (sumOf (left s) (right s)) (k .ensures) (c .before .before .if1 .left) in
-    let d = long (m .result) (productOf (left s) (right s)) (m .ensures) (c .before .if2 .taken) in
+    let s = c .before .before .before .before .before .before .before .before .before .before .before .before .before .before in
+    let k = c .before .before .before .before .before .before .before .sum2 in
+    let m = c .before .before .before .product2 in
+    let e = short (k .result) (sumOf (left s) (right s)) (k .ensures .0) (c .before .before .before .before .before .if1 .left) in
+    let d = long (m .result) (productOf (left s) (right s)) (m .ensures .0) (c .before .if2 .taken) in
     made-unfit Sum (left s) (right s) (s .args .amount) (c .unfit2 .result) (none s) (c .unfit2 .ensures) (rw (e, d))
 
 sub-fold-in : tie.Need-sub-fold-in
@@ -204,8 +198,11 @@ fold-in-requires-2 c κs =
     let s = begun (at-one o) in
     fold-asked (one o) (omega arith) refl (lost s) (s .pre .3) (small s .1 .0)
 
-front-requires : tie.Need-front-requires
-front-requires c κs = search needs
+array-share-prefix-sum : tie.Need-array-share-prefix-sum
+array-share-prefix-sum c = let k = at-two (c .before .before .before .before .before .before .before) in omega (arith, k .before .before .before .before .if1 .left, k .before .before .before .before .before .before .sum2 .kept .1 .1 .0)
+
+slice-aggregate-s : tie.Need-slice-aggregate-s
+slice-aggregate-s c = sym (length-take-le _ _ (array-share-prefix-sum (c .before)))
 
 fold-in-requires-3 : tie.Need-fold-in-requires-3
 unfolding negated
@@ -213,10 +210,13 @@ fold-in-requires-3 c κs =
     let h = c .before .before .before .before in
     let k = at-two (past-two h) in
     let s = begun k in
-    fold-asked (two (past-two h)) (omega arith) (sum-is h) (gained s) (polynomials k .1 .1 .0) (small s .1 .1 .0)
+    fold-asked (two (past-two h)) (omega arith) (sum-is k) (gained s) (polynomials k .1 .1 .0) (small s .1 .1 .0)
 
-front-requires-2 : tie.Need-front-requires-2
-front-requires-2 c κs = search needs
+array-share-prefix-product : tie.Need-array-share-prefix-product
+array-share-prefix-product c = let k = at-three (c .before .before .before .before .before .before .before) in omega (arith, k .if2 .left, k .before .before .product2 .kept .1 .1 .0)
+
+slice-aggregate-p : tie.Need-slice-aggregate-p
+slice-aggregate-p c = sym (length-take-le _ _ (array-share-prefix-product (c .before)))
 
 add-twice : tie.Need-add-twice
 add-twice c = let s = begun (at-three (past-three c)) in rw (gained s) (doubled-fits (s .args .amount) (s .pre .1))
@@ -227,7 +227,7 @@ fold-in-requires-4 c κs =
     let h = c .before .before .before .before in
     let k = at-three (past-three h) in
     let s = begun k in
-    fold-asked (three (past-three h)) (omega arith) (product-is h) (doubled s) (polynomials k .1 .1 .1 .0) (small s .1 .1 .1 .0)
+    fold-asked (three (past-three h)) (omega arith) (product-is k) (doubled s) (polynomials k .1 .1 .1 .0) (small s .1 .1 .1 .0)
 
 same-length : tie.Need-same-length
 same-length c = four (last c) .kept .entries ∙ sym (none (begun (at-four (last c))) .kept .entries)
@@ -249,19 +249,23 @@ pub plan-sum-spec : {M : Type 1} → statement M
 plan-sum-spec =
     tie.close
     (tie.spec
-    sum-of-requires
-    product-of-requires
+    slice-aggregate-sum
+    sum-requires
     unfit-requires
     returns
+    slice-aggregate-product
+    product-requires
     unfit-requires-2
     returns-2
     sub-fold-in
     fold-in-requires
     sub-fold-in-2
     fold-in-requires-2
-    front-requires
+    array-share-prefix-sum
+    slice-aggregate-s
     fold-in-requires-3
-    front-requires-2
+    array-share-prefix-product
+    slice-aggregate-p
     add-twice
     fold-in-requires-4
     same-length

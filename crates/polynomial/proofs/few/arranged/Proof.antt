@@ -1,22 +1,21 @@
 -- `arranged` meets its contract: masks that ascend, apart from a mask, are different with it too, so as many are left as there are.
-use mathlib.Core.Path.{sym, ap, _∙_}
+use mathlib.Core.Path.{sym}
 use mathlib.Core.List.{map}
 use native.Mathlib.Omega.{arith}
 use lib.Bits.{bitOr}
-use lib.ListN.{length}
+use lib.ListN.{take}
 use lib.Seq.{length-take-le}
 use borrow.Author.Needs.{needs}
 use Rattle.polynomial.specs.ClauseLaws.{length-joined}
-use Rattle.polynomial.specs.Polynomial.{normal, outcomeOf}
-use Rattle.polynomial.proofs.Keys.{below-each, outcome-long, run-masks}
+use Rattle.polynomial.specs.Polynomial.{normal}
+use Rattle.polynomial.proofs.Keys.{below-each, run-masks, written-terms}
 use Rattle.polynomial.proofs.few.arranged.Statement.{statement}
 use Rattle.polynomial.proofs.few.arranged.Tie as tie
 
 returns : tie.Need-returns
 returns c =
-    let s = c .before .before in
-    let masks = s .args .masks .now in
-    outcome-long (normal (map (bitOr (s .args .fixed)) masks)) (length masks) (sym (length-joined (s .args .fixed) masks (s .pre .1) (s .pre .0))) (c .if1 .taken)
+    let s = c .before .before .before in
+    (sym (length-joined (s .args .fixed) (s .args .masks .now) (s .pre .1) (s .pre .0)), λ h. absurd (omega arith))
 
 slice-aggregate-ordered-keys : tie.Need-slice-aggregate-ordered-keys
 slice-aggregate-ordered-keys c = search needs
@@ -30,18 +29,24 @@ ordered-keys-requires c κs = search needs
 array-share-prefix-keys : tie.Need-array-share-prefix-keys
 array-share-prefix-keys c = search needs
 
-slice-aggregate-collect : tie.Need-slice-aggregate-collect
-slice-aggregate-collect c = sym (length-take-le _ _ (array-share-prefix-keys (c .before)))
+slice-aggregate-write-masks : tie.Need-slice-aggregate-write-masks
+slice-aggregate-write-masks c = sym (length-take-le _ _ (array-share-prefix-keys (c .before)))
 
-collect-requires : tie.Need-collect-requires
-collect-requires c κs = search needs
+write-masks-requires : tie.Need-write-masks-requires
+write-masks-requires c κs = search needs
+
+same-length : tie.Need-same-length
+same-length c = search needs
 
 returns-2 : tie.Need-returns-2
 returns-2 c =
-    let s = c .before .before .before .before .before .before .before .before .before in
+    let s = c .before .before .before .before .before .before .before .before .before .before .before .before .before in
     let masks = s .args .masks .now in
-    let below = below-each masks (λ i h. omega (arith, c .before .before .before .before .before .before .before .before .shared-slice-known .given i)) in
-    c .collect .ensures ∙ ap outcomeOf (run-masks (s .args .fixed) masks _ (s .fits .fixed .fits) below (c .before .before .before .before .ordered-keys .ensures .1))
+    let below = below-each masks (λ i h. omega (arith, c .before .before .before .before .before .before .before .before .before .before .before .before .shared-slice-known .given i)) in
+    let k = c .before .before .before .before .before .before .before .ordered-keys in
+    let w = c .before .before .write-masks in
+    written-terms (normal (map (bitOr (s .args .fixed)) masks)) (take (k .result) (k .last .1 .1 .0)) (s .args .out .now) (w .last .1 .0) (w .result)
+    (run-masks (s .args .fixed) masks _ (s .fits .fixed .fits) below (k .ensures .1)) (w .ensures) (s .pre .2)
 
 pub arranged-spec : {M : Type 1} → statement M
 arranged-spec =
@@ -52,6 +57,7 @@ arranged-spec =
     slice-aggregate-ordered-keys-2
     ordered-keys-requires
     array-share-prefix-keys
-    slice-aggregate-collect
-    collect-requires
+    slice-aggregate-write-masks
+    write-masks-requires
+    same-length
     returns-2)

@@ -11,7 +11,7 @@ use Rattle.run.specs.Run.{Sorted}
 use Rattle.polynomial.specs.ClauseLaws.{Apart, length-subsets-le, ascending, subsets-ascend, subsets-apart}
 use Rattle.polynomial.specs.Few.{productIndices, toggled, chosen}
 use Rattle.polynomial.specs.FewLaws.{varying-apart, chosen-all, chosen-sorted, table-product}
-use Rattle.polynomial.specs.Polynomial.{normal, subsetsOf, outcomeOf}
+use Rattle.polynomial.specs.Polynomial.{normal, subsetsOf}
 use Rattle.polynomial.proofs.FewSteps.{longer, table-small, chosen-front}
 use Rattle.polynomial.proofs.few.product_by.Statement.{statement}
 use Rattle.polynomial.proofs.few.product_by.Tie as tie
@@ -22,18 +22,20 @@ toggle-products-requires c κs = search needs
 subsets-requires : tie.Need-subsets-requires
 subsets-requires c κs = search needs
 
+abbrev begun : tie.After-toggle-products → tie.Start
+begun c = c .before .before .before .before .before .before .before
+
 -- the table that is left
 made : (c : tie.After-toggle-products)
     → c .toggle-products .last .1 .1 .1 .0
-    ≡ toggled (replicate (length (c .before .before .before .before .before .before .args .table .now)) 0)
-    (productIndices (c .before .before .before .before .before .before .args .mask) (c .before .before .before .before .before .before .args .f .now) (c .before .before .before .before .before .before .args .g .now))
+    ≡ toggled (replicate (length (begun c .args .table .now)) 0) (productIndices (begun c .args .mask) (begun c .args .f .now) (begun c .args .g .now))
 made c =
-    let s = c .before .before .before .before .before .before in
+    let s = begun c in
     c .toggle-products .ensures ∙ ap (λ (l : List ℕ). toggled l (productIndices (s .args .mask) (s .args .f .now) (s .args .g .now))) (s .pre .7)
 
 slice-relend-prefix-choose : tie.Need-slice-relend-prefix-choose
 slice-relend-prefix-choose c =
-    let s = c .before .before .before .before .before .before .before .before .before .before .before .before in
+    let s = c .before .before .before .before .before .before .before .before .before .before .before .before .before in
     let d = c .before .before .subsets in
     omega (arith, d .ensures .0, d .kept .1 .0, length-subsets-le 32 (s .args .mask), s .pre .5)
 
@@ -42,7 +44,7 @@ slice-aggregate-choose c = sym (length-take-le _ _ (slice-relend-prefix-choose (
 
 choose-requires : tie.Need-choose-requires
 choose-requires c κs =
-    let s = c .before .before .before .before .before .before .before .before .before .before .before .before .before .before in
+    let s = c .before .before .before .before .before .before .before .before .before .before .before .before .before .before .before in
     let t = c .before .before .before .before .before .before .before .before .toggle-products in
     let d = c .before .before .before .before .subsets in (
       omega (arith, d .ensures .0, t .kept .1 .1 .1 .0, length-subsets-le 32 (s .args .mask), s .pre .6, slice-aggregate-choose (c .before)),
@@ -59,14 +61,15 @@ slice-aggregate-arranged c = sym (length-take-le _ _ (slice-reshare-prefix-arran
 
 arranged-requires : tie.Need-arranged-requires
 arranged-requires c κs =
-    let s = c .before .before .before .before .before .before .before .before .before .before .before .before .before .before .before .before .before .before in
+    let s = c .before .before .before .before .before .before .before .before .before .before .before .before .before .before .before .before .before .before .before .before in
     let m = s .args .mask in
-    let d = c .before .before .before .before .before .before .before .before .subsets in
-    let h = c .before .before .before .choose in
+    let d = c .before .before .before .before .before .before .before .before .before .subsets in
+    let h = c .before .before .before .before .choose in
     let apart : bitAnd m (s .args .fixed) ≡ 0 = rw (s .pre .2, s .pre .3) (varying-apart (s .args .f .now) (s .args .g .now)) in
-    subst (λ (l : List ℕ). Sorted ascending l × Apart (s .args .fixed) l)
+    let k = subst (λ (l : List ℕ). Sorted ascending l × Apart (s .args .fixed) l)
     (sym (chosen-front (subsetsOf 32 m) _ _ (h .last .0) _ (h .result) (h .ensures .0) (h .kept .0) (d .ensures .1) (h .ensures .1)))
-    (chosen-sorted ascending (subsetsOf 32 m) _ (subsets-ascend 32 m), chosen-all (λ t. bitAnd (s .args .fixed) t ≡ 0) (subsetsOf 32 m) _ (subsets-apart 32 m (s .args .fixed) apart))
+    (chosen-sorted ascending (subsetsOf 32 m) _ (subsets-ascend 32 m), chosen-all (λ t. bitAnd (s .args .fixed) t ≡ 0) (subsetsOf 32 m) _ (subsets-apart 32 m (s .args .fixed) apart)) in
+    (k .0, k .1, s .pre .8)
 
 same-length : tie.Need-same-length
 same-length c = search needs
@@ -74,18 +77,22 @@ same-length c = search needs
 same-length-2 : tie.Need-same-length-2
 same-length-2 c = search needs
 
+same-length-3 : tie.Need-same-length-3
+same-length-3 c = search needs
+
 returns : tie.Need-returns
 returns c =
-    let s = c .before .before .before .before .before .before .before .before .before .before .before .before .before .before .before .before .before .before .before in
+    let s = c .before .before .before .before .before .before .before .before .before .before .before .before .before .before .before .before .before .before .before .before .before .before .before in
     let m = s .args .mask in
-    let d = c .before .before .before .before .before .before .before .before .before .subsets in
-    let h = c .before .before .before .before .choose in
-    c .arranged .ensures
-    ∙ ap (λ (l : List ℕ). outcomeOf (normal (map (bitOr (s .args .fixed)) l)))
+    let d = c .before .before .before .before .before .before .before .before .before .before .before .before .subsets in
+    let h = c .before .before .before .before .before .before .before .choose in
+    let a = c .before .before .arranged in
+    let e = ap (λ (l : List ℕ). normal (map (bitOr (s .args .fixed)) l))
     (chosen-front (subsetsOf 32 m) _ _ (h .last .0) _ (h .result) (h .ensures .0) (h .kept .0) (d .ensures .1) (h .ensures .1)
-    ∙ ap (chosen (subsetsOf 32 m)) (made (c .before .before .before .before .before .before .before .before .before .before .before .before .before)))
-    ∙ ap outcomeOf (table-product (s .args .fixed) m (length (s .args .table .now)) (s .args .f .now) (s .args .g .now) (s .pre .2) (s .pre .3) (s .fits .mask .fits)
-    (omega (arith, length-subsets-le 32 m, s .pre .6)))
+    ∙ ap (chosen (subsetsOf 32 m)) (made (c .before .before .before .before .before .before .before .before .before .before .before .before .before .before .before .before)))
+    ∙ table-product (s .args .fixed) m (length (s .args .table .now)) (s .args .f .now) (s .args .g .now) (s .pre .2) (s .pre .3) (s .fits .mask .fits)
+    (omega (arith, length-subsets-le 32 m, s .pre .6)) in
+    (a .ensures .0 ∙ ap length e, λ k. a .ensures .1 k ∙ e)
 
 pub product-by-spec : {M : Type 1} → statement M
 product-by-spec =
@@ -101,4 +108,5 @@ product-by-spec =
     arranged-requires
     same-length
     same-length-2
+    same-length-3
     returns)
