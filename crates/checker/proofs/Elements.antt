@@ -15,7 +15,7 @@ use prog.Memory.{size}
 use prog.Model.{elems}
 use prog.Wp.{Heap}
 use ghost.Atoms.{Atoms}
-use types.Kit.{Given, Item, ‵, raw, _⊛_, mean, _$_, _∵_, !, qed, by, move, use1, use2, split, assume, frame, each as each-val, done}
+use types.Kit.{Given, Item, ‵, raw, _⊛_, mean, _$_, _∵_, !, qed, move, use1, use2, split, assume, frame, each as each-val, done}
 use types.Part.{Part}
 use denote.Shadow.{shadow}
 use denote.Laws.{Is, Tells}

@@ -6,7 +6,6 @@ use calculus::Rule;
 use calculus::Stepped;
 use configuration::Head;
 ghost use mathlib.Core.Path.{_≡_};
-ghost use lib.IntN.{pos};
 ghost use lib.ListN.{replicate};
 ghost use Rattle.listing.specs.Listing.{toldOf};
 ghost use Rattle.checker.specs.Records.{memoryOf};

@@ -20,14 +20,14 @@ use borrow.Author.Tests.{lt-leb, le-leb}
 use Rattle.run.specs.Boolean.{bool-ext, is-true, of-true}
 use Rattle.configuration.specs.Weight.{limit, isZero, allInRange}
 use Rattle.configuration.specs.Configuration.{Line, line, some, weight, add, addAll, Behind, Ordered, Every, placeOf, isPolynomial, linesFit}
-use Rattle.configuration.specs.Memory.{Memory, readLines, linesOf, rows, weightsOf, countsOf, imageOf, formed, wellFormed}
+use Rattle.configuration.specs.Memory.{Memory, linesOf, imageOf, formed, wellFormed}
 use Rattle.configuration.specs.Index.{rowOf, keyIn, arranged, indexedOf, linesBy, firstKey, Kept}
 use Rattle.configuration.specs.Replacement.{taken, unless, Small, Replacement, after, replaced, replacementOf, weightsBefore, weightsAfter, placesIn, countHeld, chosen, Placed, shifted, Room, verdictOf}
 use Rattle.configuration.specs.Sums.{zero-is}
 use Rattle.configuration.specs.ConfigurationLaws.{add-ordered, add-every, fit-ordered, fit-every, fits, all-fit}
 use Rattle.configuration.specs.PlaceLaws.{toNat, grown, weight-other, not-same}
 use Rattle.configuration.specs.MemoryLaws.{well-formed, weights-bound, Formed, formed-parts, formed-image, image-formed, there-and-back, fits-short, length-lines, line-at}
-use Rattle.configuration.specs.ReplacementLaws.{after-length, mag-add, netted-weight, netted-small, replace-is, replaced-netted, chosen-every, two-passes, room-first, room-last, room-length, length-after, length-before, length-places, length-shifted, shifted-take}
+use Rattle.configuration.specs.ReplacementLaws.{after-length, mag-add, replace-is, chosen-every, two-passes, room-first, room-last, room-length, length-after, length-before, length-places, length-shifted, shifted-take}
 use Rattle.configuration.specs.PlacedLaws.{place-behind, placed-first, placed-rest}
 use Rattle.configuration.specs.IndexLaws.{row-is, value-is}
 use Rattle.configuration.specs.declared.Head.{Head}

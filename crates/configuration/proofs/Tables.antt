@@ -14,7 +14,7 @@ use lib.Seq.{slice, length-slice, getD-drop, length-take-le, take-at, drop-at, d
 use Rattle.run.specs.Boolean.{is-false, left, right}
 use Rattle.run.specs.Run.{sorted}
 use Rattle.term.specs.Term.{before, keyOf}
-use Rattle.term.specs.TermLaws.{degree-le}
+use Rattle.term.specs.OrderLaws.{key-small}
 use Rattle.polynomial.specs.Polynomial.{orderOf}
 use Rattle.polynomial.specs.OrderingLaws.{order-self, order-same}
 use Rattle.polynomial.specs.declared.Ordering.{Ordering}
@@ -218,11 +218,6 @@ some-length (t ∷ f) h = omega arith
 pub first-key : (f : List ℕ) → T (some f) → keyOf (getD f 0 0) ≡ firstKey f
 first-key [] h = absurd h
 first-key (t ∷ f) h = refl
-
--- the key of a 32-bit mask, and so of a first term
-key-small : (t : ℕ) → t < 2 ^ 32 → keyOf t < 2 ^ 38
-unfolding keyOf
-key-small t h = omega (arith, degree-le 32 t h)
 
 pub first-small : (f : List ℕ) → T (some f) → getD f 0 0 < 2 ^ 32 → firstKey f < 2 ^ 38
 first-small [] n h = absurd n

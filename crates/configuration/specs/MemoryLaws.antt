@@ -326,15 +326,6 @@ unfolding countsOf
 length-counts [] = refl
 length-counts (line f w ∷ L) = ap suc (length-counts L)
 
-pub rows-append : (L M : List Line) → rows (L ++ M) ≡ rows L ++ rows M
-rows-append = area-append inTerms
-
-pub weights-append : (L M : List Line) → weightsOf (L ++ M) ≡ weightsOf L ++ weightsOf M
-weights-append = area-append inWeights
-
-pub counts-append : (L M : List Line) → countsOf (L ++ M) ≡ countsOf L ++ countsOf M
-counts-append = area-append inCounts
-
 -- ---- a line put in at place k
 module _ (c n k : ℕ) (L : List Line) (f : List ℕ) (w : ℤ) (s : Short L) (h : k ≤ length L) (q : length L < c) where
   pub insert-terms : (imageOf c n (take k L ++ line f w ∷ drop k L)) .terms

@@ -131,11 +131,6 @@ module _ (f g : List ℕ) (u : ℤ) (d : Line) where
       let k : orderOf f p ≡ Later = order-earlier p f (rw (order-same f g h) (behind-at p g u d i L (r .1 .1 .0) m e)) in
       rw k (ap suc (same-here i L (r .1 .1 .1) m e h))
 
--- f is never later than the line at its place
-pub place-not-later : (f g : List ℕ) (u : ℤ) (d : Line) (L : List Line) → Ordered L → placeOf f L < length L → getD L (placeOf f L) d ≡ line g u
-    → orderOf f g ≡ Later → ⊥
-place-not-later f g u d L r l e h = omega (arith, earlier-right f g u d (placeOf f L) L r l e h)
-
 -- ---- the number of lines
 abbrev pub toNat : Bool → ℕ
 toNat true = 1
@@ -246,15 +241,6 @@ fit-weight L r h p = lines-weights (λ f w. inRange w) (λ q. tt) L r (rw (fit-l
 
 pub weight-fit : (L : List Line) → Ordered L → ((p : List ℕ) → T (some p) → T (inRange (weight L p))) → T (weightsFit L)
 weight-fit L r h = rw (fit-lines L) (weights-lines (λ f w. inRange w) (λ q. tt) L r h)
-
-pub weights-add : (f : List ℕ) (w : ℤ) (L : List Line) → Ordered L → T (some f) → T (weightsFit L) → weightsFit (add f w L) ≡ inRange (weight L f +ℤ w)
-weights-add f w L r n h = bool-ext (weightsFit (add f w L)) (inRange (weight L f +ℤ w))
-    (λ k. rw (weight-add f n f w L, order-self f) at (fit-weight (add f w L) (add-ordered f w L r) k f))
-    (λ k. weight-fit (add f w L) (add-ordered f w L r) (λ p m. go k p m (same p f) refl))
-  where
-    go : T (inRange (weight L f +ℤ w)) → (p : List ℕ) → T (some p) → (b : Bool) → same p f ≡ b → T (inRange (weight (add f w L) p))
-    go k p m true e = rw (same-is p f (of-true e), weight-add f n f w L, order-self f) k
-    go k p m false e = rw (weight-other p f w L m e) (fit-weight L r h p)
 
 -- the outcome of every polynomial of N, folded into L, is in range
 unfoldable pub outcomesFit : List Line → List Line → Bool

@@ -1,4 +1,5 @@
-// Parts of an area. These functions are for those of this crate that put lines in and take them out.
+// Parts of an area. These functions are for those of this crate that put lines in and take them out; the check of derivations
+// also writes a run of terms.
 ghost use mathlib.Core.Path.{_≡_};
 ghost use mathlib.Core.List.{_++_, _∷_};
 ghost use Prim.Native.Nat.{_+_, _-_, _≤_, _<_};

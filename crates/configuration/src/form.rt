@@ -13,7 +13,7 @@ ghost use Rattle.configuration.specs.Configuration.{line, below, isPolyn
 ghost use Rattle.configuration.specs.Memory.{memoryOf, readLines, laidOut, wellFormed};
 
 // Whether a weight is from -10^12 to 10^12.
-pub fn within_limit(weight: i64) -> bool
+fn within_limit(weight: i64) -> bool
     ensures { λ r. ⌜ r ≡ inRange weight ⌝ }
 {
     if weight < -1000000000000 {
@@ -47,7 +47,7 @@ pub fn is_below(variables: u32, terms: &[u32]) -> bool
 }
 
 // Whether a run of terms is a polynomial of so many variables.
-pub fn is_polynomial(variables: u32, terms: &[u32]) -> bool
+fn is_polynomial(variables: u32, terms: &[u32]) -> bool
     ensures { λ r. ⌜ r ≡ isPolynomial variables (now (terms .entry)) ⌝ }
 {
     if 64 < terms.len() {
@@ -141,7 +141,7 @@ pub fn weights_fit(lines: usize, weights: &[i64]) -> bool
 }
 
 // Whether a weight is negative.
-pub fn is_negative(weight: i64) -> bool
+fn is_negative(weight: i64) -> bool
     ensures { λ r. ⌜ r ≡ isNegative weight ⌝ }
 {
     weight < 0

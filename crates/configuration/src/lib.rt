@@ -1,5 +1,5 @@
 // Configurations: weighted polynomials, folded and in order, in lent areas.
-mod area;
+pub mod area;
 pub mod blank;
 pub mod form;
 pub mod index;

@@ -5,6 +5,7 @@ use calculus::Mode;
 use calculus::Rule;
 use calculus::step::step;
 use configuration::Head;
+use configuration::area::write;
 use configuration::form::none_negative;
 use configuration::table::weight_of;
 use polynomial::Polynomial;
@@ -129,18 +130,6 @@ pub fn on_term(bytes: &[u8], p: Progress, work: &mut [u32]) -> Step
     accepted(p, 5, p.chosen, p.first, added.count, head)
 }
 
-// Copies the first terms of one area to the front of another.
-fn copy(from: &[u32], count: usize, to: &mut [u32])
-    requires { ⌜ (count ≤ length (now from)) × (count ≤ length (now to)) ⌝ }
-    ensures { λ _. ⌜ take count (now (to .exit)) ≡ take count (now (from .entry)) ⌝ }
-{
-    let mut i: usize = 0;
-    while i < count {
-        to[i] = from[i];
-        i += 1;
-    }
-}
-
 // K: the work polynomial becomes f, and is cleared.
 pub fn on_choice(p: Progress, first: &mut [u32], work: &[u32]) -> Step
     requires { ⌜ (p .at < 18446744073709551615) × (p .records ≤ p .at) × (length (now first) ≡ 64) × (length (now work) ≡ 64) × (p .work ≤ 64) ⌝ }
@@ -154,7 +143,7 @@ pub fn on_choice(p: Progress, first: &mut [u32], work: &[u32]) -> Step
         return refused(p, Reason::Misplaced);
     }
     let count = p.work;
-    copy(work, count, first);
+    write(first, 0, &work[..count]);
     accepted(p, 1, true, count, 0, p.head)
 }
 

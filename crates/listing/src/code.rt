@@ -8,8 +8,8 @@ ghost use lib.Dec.{T};
 ghost use Rattle.configuration.specs.Memory.{memoryOf, linesIn, wellFormed};
 ghost use Rattle.listing.specs.Code.{codeOf};
 
-// The code of the whole listing, newlines included, of a configuration that is known to be well formed: each line is
-// written and added in turn.
+// The code of the whole listing, newlines included: each line is written and added in turn. It is for the checker, whose
+// configurations are known to be well formed.
 pub fn code_of(head: Head, terms: &[u32], weights: &[i64], counts: &[u32]) -> u64
     requires { ⌜ T (wellFormed (memoryOf head (now terms) (now weights) (now counts))) ⌝ }
     ensures { λ r. ⌜ r ≡ codeOf (head .variables) (linesIn head (now (terms .entry)) (now (weights .entry)) (now (counts .entry))) ⌝ }

@@ -50,9 +50,8 @@ fn put_line(out: &mut [u8], f: &[u32], weight: i64) -> usize
     put_bytes(out, ended, b"\n")
 }
 
-// The line of a number, at the front of the bytes: 0 is the header, and the lines are numbered from 1. It is for this crate
-// and for the programs, whose configurations are known to be well formed.
-pub fn put_text(
+// The line of a number, at the front of the bytes: 0 is the header, and the lines are numbered from 1.
+fn put_text(
     out: &mut [u8],
     head: Head,
     terms: &[u32],
@@ -73,7 +72,7 @@ pub fn put_text(
     put_line(out, row(terms, i, count), weights[i])
 }
 
-// The whole listing, from a place in the bytes on, line by line. It is for the report, whose configurations are known to be
+// The whole listing, from a place in the bytes on, line by line. It is for the checker, whose configurations are known to be
 // well formed.
 pub fn put_listing(
     out: &mut [u8],

@@ -361,9 +361,6 @@ fitting-walk s = walk-ind filing entryOf
           (rest .1 (sound-record s p q e o)),
     ))
 
-pub variables-stay : (k : ℕ) (s : List ℕ) (p : Progress State) → T (p .state .started) → (walk filing k s p) .reached .state .variables ≡ p .state .variables
-variables-stay k s p h = fitting-walk s k p .0 h
-
 pub entries-fit : (k : ℕ) (s : List ℕ) (p : Progress State) → Sound (p .state)
     → Fitting ((walk filing k s p) .reached .state .variables) (gathered filing entryOf k s p)
 entries-fit k s p o = fitting-walk s k p .1 o

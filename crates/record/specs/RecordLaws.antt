@@ -8,7 +8,7 @@ use native.Mathlib.Nat.{pow-zero, pow-succ'}
 use native.Mathlib.Omega.{arith}
 use lib.Dec.{T, leb, le→leb, ltb}
 use lib.IntN.{pos, negsuc, pos-ne-negsuc}
-use lib.ListN.{length, take, drop}
+use lib.ListN.{length, take}
 use lib.Seq.{length-take-le}
 use Rattle.record.specs.Record.{littleEndian, numberAt, signed, whole}
 
@@ -16,21 +16,6 @@ use Rattle.record.specs.Record.{littleEndian, numberAt, signed, whole}
 abbrev pub Bytes : List ℕ → Type 0
 Bytes [] = Unit {0}
 Bytes (b ∷ s) = (b < 256) × Bytes s
-
--- ---- the bound
-pub little-below : (k : ℕ) (s : List ℕ) → Bytes s → littleEndian k s < 256 ^ k
-unfolding littleEndian
-little-below zero s bytes = omega (arith, pow-zero 256)
-little-below (suc k) [] bytes = omega (arith, pow-succ' 256 k, little-below k [] bytes)
-little-below (suc k) (b ∷ s) bytes = omega (arith, pow-succ' 256 k, little-below k s (bytes .1))
-
-drop-bytes : (n : ℕ) (s : List ℕ) → Bytes s → Bytes (drop n s)
-drop-bytes zero s bytes = bytes
-drop-bytes (suc n) [] bytes = bytes
-drop-bytes (suc n) (b ∷ s) bytes = drop-bytes n s (bytes .1)
-
-pub number-below : (k : ℕ) (s : List ℕ) (at : ℕ) → Bytes s → numberAt k s at < 256 ^ k
-number-below k s at bytes = little-below k (drop at s) (drop-bytes at s bytes)
 
 -- ---- the bytes of a number: k of them, the lowest first
 unfoldable pub bytesOf : ℕ → ℕ → List ℕ

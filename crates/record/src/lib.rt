@@ -2,7 +2,7 @@
 ghost use mathlib.Core.Path.{_≡_};
 ghost use Prim.Native.Nat.{_+_, _≤_, _<_, _^_};
 ghost use lib.ListN.{length};
-ghost use Rattle.record.specs.Record.{numberAt, signed, signedAt, byteIn, maskIn, amountIn, clauseIn};
+ghost use Rattle.record.specs.Record.{numberAt, signedAt, byteIn, maskIn, amountIn, clauseIn};
 
 // A body of one byte.
 pub enum Byte {

@@ -1,4 +1,4 @@
-// The lines that the programs print besides the listings.
+// What the programs print of their files' bytes: the lines besides the listings, and all of it as one text.
 use checker::Line;
 use checker::by_value::all;
 use checker::by_value::check_derivation;
@@ -69,7 +69,7 @@ fn put_confirmation(out: &mut [u8], claim: i64, degree: u32) -> usize
 }
 
 // The line of a filing: nothing where it is accepted.
-pub fn filing_line(answer: problem::Answer) -> Text
+fn filing_line(answer: problem::Answer) -> Text
     ensures { λ r. ⌜ r ≡ textOf (filingText (toldOfFiling answer)) ⌝ }
 {
     let mut bytes = [0u8; 64];
@@ -94,7 +94,7 @@ pub fn verdict_line(answer: derivation::Answer) -> Text
 }
 
 // A code as sixteen lower-case digits.
-pub fn code_line(code: u64) -> Text
+fn code_line(code: u64) -> Text
     ensures { λ r. ⌜ r ≡ textOf (codeText code) ⌝ }
 {
     let mut digits = [0u8; 16];
@@ -116,7 +116,7 @@ fn blank_table() -> [Line; 128]
 }
 
 // What there is to tell of a problem's bytes: the line of its code, or of what was refused.
-pub fn problem_line(bytes: &[u8]) -> Text
+fn problem_line(bytes: &[u8]) -> Text
     ensures { λ r. ⌜ r ≡ textOf (codeOutput (now (bytes .entry))) ⌝ }
 {
     let mut terms = [0u32; 8192];
@@ -144,7 +144,7 @@ fn put_line(out: &mut [u8], at: usize, line: Text) -> usize
 
 // What there is to tell of a problem's and a derivation's bytes, as one text at the front of a lent area: the listing
 // before, the listing after, and the verdict; or what was refused of the problem.
-pub fn check_report(bytes: &[u8], steps: &[u8], out: &mut [u8]) -> Report
+fn check_report(bytes: &[u8], steps: &[u8], out: &mut [u8]) -> Report
     ensures { λ r. ⌜ record { area = now (out .exit); told = toldOfReport r } ≡ writeReport (checkOutput (now (bytes .entry)) (now (steps .entry))) (now (out .entry)) ⌝ }
 {
     if out.len() < 2179648 {

@@ -1,8 +1,8 @@
 -- The written order of terms is strict and total, and is the descending order of the keys.
-use mathlib.Core.Path.{_≡_, refl, sym, ap, _∙_}
+use mathlib.Core.Path.{_≡_, ap}
 use mathlib.Core.Logic.{_⊎_, inl, inr}
 use mathlib.Core.Bool.{Bool, true, false, _&&_, _||_}
-use Prim.Native.Nat.{ℕ, _+_, _*_, _%_, _^_, _≤_, _<_}
+use Prim.Native.Nat.{ℕ, _^_, _<_}
 use native.Mathlib.Decide.{decLt}
 use native.Mathlib.Omega.{arith}
 use lib.Dec.{T, ltb, eqb, eqb→eq, ltb→lt, lt→ltb}
@@ -74,9 +74,9 @@ pub key-mask : (t : ℕ) → t < 2 ^ 32 → maskOf (keyOf t) ≡ t
 unfolding keyOf
 key-mask t h = low (degreeOf t) 32 h
 
-pub key-lt : (t : ℕ) → t < 2 ^ 32 → keyOf t < 2 ^ 64
+pub key-small : (t : ℕ) → t < 2 ^ 32 → keyOf t < 2 ^ 38
 unfolding keyOf
-key-lt t h = omega (arith, degree-le 32 t h)
+key-small t h = omega (arith, degree-le 32 t h)
 
 pub key-before : (s t : ℕ) → s < 2 ^ 32 → t < 2 ^ 32 → before s t ≡ ltb (keyOf t) (keyOf s)
 unfolding keyOf

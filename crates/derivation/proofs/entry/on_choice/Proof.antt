@@ -1,5 +1,10 @@
 -- `on_choice` meets its contract: f is set once, to the terms that are copied, and the work polynomial is then empty.
-use mathlib.Core.Path.{sym, _∙_}
+use mathlib.Core.Path.{_≡_, sym, ap, _∙_}
+use mathlib.Core.List.{List, _++_}
+use Prim.Native.Nat.{ℕ}
+use native.Mathlib.Omega.{arith}
+use lib.ListN.{length, take}
+use lib.Seq.{length-take-le, take-append-seam}
 use denote.Ref.{now}
 use borrow.Author.Tests.{not-true, not-false}
 use borrow.Author.Needs.{needs}
@@ -50,8 +55,21 @@ returns-2 c =
           (choice-again p fs us is ts ws cs k (c .before .if2 .taken)) .1,
     )
 
-copy-requires : tie.Need-copy-requires
-copy-requires c κs = search needs
+-- ---- the terms of the work polynomial, written to the front of the other area
+abbrev work : tie.Start → List ℕ
+work s = take (s .args .p .work) (now (s .args .work))
+
+work-long : (s : tie.Start) → length (work s) ≡ s .args .p .work
+work-long s = length-take-le (s .args .p .work) (now (s .args .work)) (omega (arith, s .pre .3, s .pre .4))
+
+slice-aggregate-write : tie.Need-slice-aggregate-write
+slice-aggregate-write c = sym (work-long (c .before .before .before .before .before .before .before))
+
+write-requires : tie.Need-write-requires
+write-requires c κs = let s = c .before .before .before .before .before .before .before in omega (arith, work-long s, s .pre .2, s .pre .4)
+
+written : (s : tie.Start) (gs rest : List ℕ) → gs ≡ work s ++ rest → take (s .args .p .work) gs ≡ work s
+written s gs rest e = ap (take (s .args .p .work)) e ∙ ap (λ (k : ℕ). take k (work s ++ rest)) (sym (work-long s)) ∙ take-append-seam (work s) rest
 
 accepted-requires : tie.Need-accepted-requires
 accepted-requires c κs = search needs
@@ -61,21 +79,22 @@ same-length c = search needs
 
 returns-3 : tie.Need-returns-3
 returns-3 c =
-    let s = c .before .before .before .before .before .before .before .before .before .before in
+    let s = c .before .before .before .before .before .before .before .before .before .before .before in
     let a = s .args in
     let p = a .p in
     let n = p .head .variables in
     let fs = now (a .first) in
     let us = now (a .work) in
-    let g = c .before .before .before .before .before .before .before .is-going in
-    let k = sym (g .ensures) ∙ not-false (g .result) (c .before .before .before .before .before .before .if1 .left) in
-    let u = c .before .before .before .before .before .if2 .left in
-    let d = c .before .before .before .copy in
-    let gs = d .last .1 .1 .0 in
-    let l = d .kept .1 .1 .0 ∙ s .pre .2 in
+    let g = c .before .before .before .before .before .before .before .before .is-going in
+    let k = sym (g .ensures) ∙ not-false (g .result) (c .before .before .before .before .before .before .before .if1 .left) in
+    let u = c .before .before .before .before .before .before .if2 .left in
+    let d = c .before .before .before .write in
+    let gs = d .last .0 in
+    let l = d .kept .0 ∙ s .pre .2 in
+    let e = written s gs _ (d .ensures) in
     let r = c .accepted in (
-      λ is ts ws cs ready. choice-up p fs us is ts ws cs k u n gs (d .ensures) l ready (r .result) (r .ensures) .0,
-      λ is ts ws cs ready. choice-up p fs us is ts ws cs k u n gs (d .ensures) l ready (r .result) (r .ensures) .1,
+      λ is ts ws cs ready. choice-up p fs us is ts ws cs k u n gs e l ready (r .result) (r .ensures) .0,
+      λ is ts ws cs ready. choice-up p fs us is ts ws cs k u n gs e l ready (r .result) (r .ensures) .1,
     )
 
 pub on-choice-spec : {M : Type 1} → statement M
@@ -87,7 +106,8 @@ on-choice-spec =
     returns
     refused-requires-2
     returns-2
-    copy-requires
+    slice-aggregate-write
+    write-requires
     accepted-requires
     same-length
     returns-3)

@@ -1,7 +1,6 @@
 -- `byte_degrees` meets its contract: the checker computes the count of ones of every byte and compares.
 use mathlib.Core.Path.{refl}
 use lib.Count.{ones}
-use borrow.Author.Needs.{needs}
 use Rattle.term.specs.Term.{byteDegrees}
 use Rattle.term.proofs.table.byte_degrees.Statement.{statement}
 use Rattle.term.proofs.table.byte_degrees.Tie as tie
