@@ -117,7 +117,7 @@ fn toggle_row(index: u32, row: &[u32], table: &mut [u8])
 }
 
 // Toggles the place of the union of each index of f with each index of g.
-fn toggle(f: &[u32], g: &[u32], table: &mut [u8])
+fn toggle_pairs(f: &[u32], g: &[u32], table: &mut [u8])
     requires { ⌜ All (λ t. All (λ u. bitOr t u < length (now table)) (now g)) (now f) ⌝ }
     ensures { λ _. ⌜ now (table .exit) ≡ toggled (now (table .entry)) (unions (now (f .entry)) (now (g .entry))) ⌝ }
 {
@@ -139,7 +139,7 @@ fn toggle_products(mask: u32, f: &[u32], g: &[u32], table: &mut [u8])
     let mut right = [0u32; 64];
     indices(mask, f, &mut left[..m]);
     indices(mask, g, &mut right[..n]);
-    toggle(&left[..m], &right[..n], table);
+    toggle_pairs(&left[..m], &right[..n], table);
 }
 
 // Brings the masks whose places in a table are 1 to the front, and answers how many they are.

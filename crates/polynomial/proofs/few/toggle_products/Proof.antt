@@ -39,8 +39,8 @@ array-share-prefix-left c =
     let r = c .before .before .before .before .indices in
     front-fits (indexOf 32 (s .args .mask)) (s .args .f .now) (r .last .1 .1 .0) _ (r .ensures)
 
-slice-aggregate-toggle : tie.Need-slice-aggregate-toggle
-slice-aggregate-toggle c = sym (length-take-le _ _ (array-share-prefix-left (c .before)))
+slice-aggregate-toggle-pairs : tie.Need-slice-aggregate-toggle-pairs
+slice-aggregate-toggle-pairs c = sym (length-take-le _ _ (array-share-prefix-left (c .before)))
 
 array-share-prefix-right : tie.Need-array-share-prefix-right
 array-share-prefix-right c =
@@ -48,11 +48,11 @@ array-share-prefix-right c =
     let r = c .before .before .indices2 in
     front-fits (indexOf 32 (s .args .mask)) (s .args .g .now) (r .last .1 .1 .0) _ (r .ensures)
 
-slice-aggregate-toggle-2 : tie.Need-slice-aggregate-toggle-2
-slice-aggregate-toggle-2 c = sym (length-take-le _ _ (array-share-prefix-right (c .before)))
+slice-aggregate-toggle-pairs-2 : tie.Need-slice-aggregate-toggle-pairs-2
+slice-aggregate-toggle-pairs-2 c = sym (length-take-le _ _ (array-share-prefix-right (c .before)))
 
-toggle-requires : tie.Need-toggle-requires
-toggle-requires c κs =
+toggle-pairs-requires : tie.Need-toggle-pairs-requires
+toggle-pairs-requires c κs =
     let s = c .before .before .before .before .before .before .before .before .before .before .before .before in
     let m = s .args .mask in
     let f = s .args .f .now in
@@ -71,7 +71,7 @@ returns c =
     let m = s .args .mask in
     let i = c .before .before .before .before .before .before .before .before .before .before .indices in
     let j = c .before .before .before .before .before .before .before .indices2 in
-    c .before .before .toggle .ensures ∙ ap₂ (λ (x y : List ℕ). toggled (s .args .table .now) (unions x y))
+    c .before .before .toggle-pairs .ensures ∙ ap₂ (λ (x y : List ℕ). toggled (s .args .table .now) (unions x y))
     (front-is (indexOf 32 m) (s .args .f .now) (i .last .1 .1 .0) _ (i .ensures)) (front-is (indexOf 32 m) (s .args .g .now) (j .last .1 .1 .0) _ (j .ensures))
 
 pub toggle-products-spec : {M : Type 1} → statement M
@@ -85,9 +85,9 @@ toggle-products-spec =
     slice-aggregate-indices-2
     indices-requires-2
     array-share-prefix-left
-    slice-aggregate-toggle
+    slice-aggregate-toggle-pairs
     array-share-prefix-right
-    slice-aggregate-toggle-2
-    toggle-requires
+    slice-aggregate-toggle-pairs-2
+    toggle-pairs-requires
     same-length
     returns)
