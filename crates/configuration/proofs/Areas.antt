@@ -1,11 +1,12 @@
 -- The steps of the loops that test, write and move parts of an area, over plain lists of any elements; and the bits of a weight.
 use mathlib.Core.Path.{_≡_, refl, sym, ap, ap₂, _∙_}
-use mathlib.Core.Bool.{Bool, true, false, _&&_}
+use mathlib.Core.Bool.{Bool, true, false, not, _&&_}
 use mathlib.Core.List.{List, [], _∷_, _++_, append-assoc}
 use Prim.Native.Nat.{ℕ, zero, suc, _+_, _-_, _^_, _≤_, _<_}
 use native.Mathlib.Numerals.{add-one}
 use native.Mathlib.Omega.{arith}
-use lib.Dec.{eqb}
+use lib.Bits.{bitOr, or-add-and, and-le-l, and-le-r, or-lt}
+use lib.Dec.{eqb, ltb}
 use lib.IntN.{ℤ, pos, negsuc}
 use lib.ListN.{length, getD, take, drop, set, length-append, drop-of-length-le, take-append-drop, List·getD-append}
 use lib.Seq.{slice, slice-cons, slice-empty, length-slice, paste, paste-zero, paste-suc, length-paste-head, drop-cons, take-suc, take-all, append-snoc, length-take-le, set-at, getD-take, getD-drop, getD-append-add}
@@ -13,8 +14,8 @@ use lib.Signed.{mag}
 use mir.Syntax.{w64}
 use mir.Val.{toZ, ofZ}
 use mir.Facts.{toZ-ofZ}
-use borrow.Author.Tests.{ne-eqb}
-use Rattle.configuration.specs.Weight.{isZero}
+use borrow.Author.Tests.{ne-eqb, lt-ltb, le-ltb, ltb-true, ltb-false}
+use Rattle.configuration.specs.Weight.{isZero, isNegative}
 
 -- ---- a test of every element, from the first on
 module _ {A : Type 0} (test : A → Bool) (every : List A → Bool)
@@ -34,24 +35,18 @@ module _ {A : Type 0} (test : A → Bool) (every : List A → Bool)
   pub ends : length l ≤ i → every (drop i l) ≡ every l → true ≡ every l
   ends h inv = sym none ∙ ap every (sym (drop-of-length-le l h)) ∙ inv
 
-  -- those that fail it are counted, k so far: every element passes just if none has been counted and those that are left pass
-  module _ (k : ℕ) (inv : (eqb k 0 && every (drop i l)) ≡ every l) where
-    pub one-fails : (n : ℕ) → n ≡ k + 1 → i < length l → test (getD l i z) ≡ false → (eqb n 0 && every (drop (i + 1) l)) ≡ every l
-    one-fails n q h e = rw (ne-eqb n 0 (λ x. omega arith)) (go (eqb k 0) inv)
+  -- b tells whether those before i pass it: every element passes just if these do and those that are left
+  module _ (b : Bool) (inv : (b && every (drop i l)) ≡ every l) where
+    pub one-joined : (c : Bool) → c ≡ (b && test (getD l i z)) → i < length l → (c && every (drop (i + 1) l)) ≡ every l
+    one-joined c q h = rw q (go b inv (test (getD l i z)) refl)
       where
-        go : (b : Bool) → (b && every (drop i l)) ≡ every l → false ≡ every l
-        go true r = stops h e r
-        go false r = r
+        go : (b : Bool) → (b && every (drop i l)) ≡ every l → (t : Bool) → test (getD l i z) ≡ t → ((b && t) && every (drop (i + 1) l)) ≡ every l
+        go true r true e = goes-on h e r
+        go true r false e = stops h e r
+        go false r t e = r
 
-    pub one-passes : (n : ℕ) → n ≡ k → i < length l → test (getD l i z) ≡ true → (eqb n 0 && every (drop (i + 1) l)) ≡ every l
-    one-passes n q h e = rw q (go (eqb k 0) inv)
-      where
-        go : (b : Bool) → (b && every (drop i l)) ≡ every l → (b && every (drop (i + 1) l)) ≡ every l
-        go true r = goes-on h e r
-        go false r = r
-
-    pub all-counted : length l ≤ i → eqb k 0 ≡ every l
-    all-counted h = go (eqb k 0) inv
+    pub all-joined : length l ≤ i → b ≡ every l
+    all-joined h = go b inv
       where
         go : (b : Bool) → (b && every (drop i l)) ≡ every l → b ≡ every l
         go true r = ends h r
@@ -163,3 +158,39 @@ pub not-zero : (w : ℤ) → (ofZ w64 w ≡ ofZ w64 (pos 0) → ⊥) → isZero 
 not-zero (pos zero) h = absurd (h refl)
 not-zero (pos (suc n)) h = refl
 not-zero (negsuc n) h = refl
+
+-- ---- joined bits: they are below a power of 2 just if both numbers are
+joined-above : (a b : ℕ) → (a ≤ bitOr a b) × (b ≤ bitOr a b)
+joined-above a b = omega (arith, or-add-and a b, and-le-l a b, and-le-r a b)
+
+pub joined-below : (k a b : ℕ) → ltb (bitOr a b) (2 ^ k) ≡ (ltb a (2 ^ k) && ltb b (2 ^ k))
+joined-below k a b = go (ltb a (2 ^ k)) refl (ltb b (2 ^ k)) refl
+  where
+    go : (x : Bool) → ltb a (2 ^ k) ≡ x → (y : Bool) → ltb b (2 ^ k) ≡ y → ltb (bitOr a b) (2 ^ k) ≡ (x && y)
+    go true p true q = lt-ltb (bitOr a b) (2 ^ k) (or-lt k a b (ltb-true a (2 ^ k) p) (ltb-true b (2 ^ k) q))
+    go true p false q = le-ltb (bitOr a b) (2 ^ k) (omega (arith, joined-above a b, ltb-false b (2 ^ k) q))
+    go false p y q = le-ltb (bitOr a b) (2 ^ k) (omega (arith, joined-above a b, ltb-false a (2 ^ k) p))
+
+below-one : (a : ℕ) → ltb a (2 ^ 0) ≡ eqb a 0
+below-one zero = refl
+below-one (suc a) = le-ltb (suc a) (2 ^ 0) (omega arith) ∙ sym (ne-eqb (suc a) 0 (λ e. omega arith))
+
+pub joined-zero : (a b : ℕ) → eqb (bitOr a b) 0 ≡ (eqb a 0 && eqb b 0)
+joined-zero a b = sym (below-one (bitOr a b)) ∙ joined-below 0 a b ∙ ap₂ _&&_ (below-one a) (below-one b)
+
+-- the highest bit of a weight tells whether it is negative
+pub sign-bit : (n : ℕ) → not (isNegative (toZ w64 n)) ≡ ltb n (2 ^ 63)
+sign-bit n = go (ltb n (2 ^ 63)) refl
+  where
+    go : (b : Bool) → ltb n (2 ^ 63) ≡ b → not (isNegative (toZ w64 n)) ≡ b
+    go true e = rw e refl
+    go false e = rw e refl
+
+pub sign-is : (w : ℤ) → mag w < 2 ^ 63 → ltb (ofZ w64 w) (2 ^ 63) ≡ not (isNegative w)
+sign-is w h = sym (sign-bit (ofZ w64 w)) ∙ ap (λ (z : ℤ). not (isNegative z)) (read-back w h)
+
+-- its bits are zero just if it is
+pub zero-bits : (w : ℤ) → mag w < 2 ^ 63 → eqb (ofZ w64 w) 0 ≡ isZero w
+zero-bits (pos zero) h = refl
+zero-bits (pos (suc n)) h = ne-eqb (suc n) 0 (λ e. omega arith)
+zero-bits (negsuc n) h = ne-eqb (2 ^ 64 - suc n) 0 (λ e. omega arith)

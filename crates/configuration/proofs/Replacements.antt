@@ -7,7 +7,7 @@ use Prim.Native.Nat.{ℕ, zero, suc, _+_, _-_, _*_, _^_, _≤_, _<_}
 use native.Mathlib.Nat.{le-of-suc-le-suc, not-suc-le-zero}
 use native.Mathlib.Numerals.{add-one}
 use native.Mathlib.Omega.{arith}
-use lib.Dec.{T, eqb, leb, eqb→eq, leb→le}
+use lib.Dec.{T, leb, leb→le}
 use lib.IntN.{ℤ, pos, _+ℤ_}
 use lib.Signed.{mag}
 use lib.ListN.{length, getD, set, take, drop, replicate, length-take, length-set, drop-of-length-le}
@@ -17,13 +17,12 @@ use mir.Val.{SFits, toZ, ofZ}
 use denote.Enum.Declared.{tagOf}
 use types.Run.{OneOf}
 use borrow.Author.Tests.{lt-leb, le-leb}
-use Rattle.run.specs.Boolean.{bool-ext, is-true, of-true}
+use Rattle.run.specs.Boolean.{is-true}
 use Rattle.configuration.specs.Weight.{limit, isZero, allInRange}
 use Rattle.configuration.specs.Configuration.{Line, line, some, weight, add, addAll, Behind, Ordered, Every, placeOf, isPolynomial, linesFit}
 use Rattle.configuration.specs.Memory.{Memory, linesOf, imageOf, formed, wellFormed}
 use Rattle.configuration.specs.Index.{rowOf, keyIn, arranged, indexedOf, linesBy, firstKey, Kept}
 use Rattle.configuration.specs.Replacement.{taken, unless, Small, Replacement, after, replaced, replacementOf, weightsBefore, weightsAfter, placesIn, countHeld, chosen, Placed, shifted, Room, verdictOf}
-use Rattle.configuration.specs.Sums.{zero-is}
 use Rattle.configuration.specs.ConfigurationLaws.{add-ordered, add-every, fit-ordered, fit-every, fits, all-fit}
 use Rattle.configuration.specs.PlaceLaws.{toNat, grown, weight-other, not-same}
 use Rattle.configuration.specs.MemoryLaws.{well-formed, weights-bound, Formed, formed-parts, formed-image, image-formed, there-and-back, fits-short, length-lines, line-at}
@@ -34,7 +33,7 @@ use Rattle.configuration.specs.declared.Head.{Head}
 use Rattle.configuration.specs.declared.Verdict.{Verdict}
 use Rattle.configuration.specs.declared.Verdict.the-variants.{Done, TooManyLines, WeightTooLarge}
 use Rattle.configuration.proofs.Verdict.{the-type}
-use Rattle.configuration.proofs.Areas.{read-back, is-zero}
+use Rattle.configuration.proofs.Areas.{read-back}
 use Rattle.configuration.proofs.Forms.{rowAt, laid-short}
 use Rattle.configuration.proofs.Tables.{row-below}
 use Rattle.configuration.proofs.Searches.{line-is, line-keyed}
@@ -64,10 +63,6 @@ held-le (w ∷ l) = go (isZero w) (held-le l)
     go : (b : Bool) → countHeld l ≤ length l → cond b (countHeld l) (suc (countHeld l)) ≤ suc (length l)
     go true h = omega arith
     go false h = omega arith
-
--- a weight's bits are zero just if it is
-pub zero-bits : (w : ℤ) → mag w < 2 ^ 63 → eqb (ofZ w64 w) 0 ≡ isZero w
-zero-bits w h = bool-ext (eqb (ofZ w64 w) 0) (isZero w) (λ t. of-true (is-zero w h (eqb→eq (ofZ w64 w) 0 t))) (λ t. rw (zero-is w t) tt)
 
 -- ---- line i of a list
 pub every-at : (P : List ℕ → Type 0) (f : List ℕ) (w : ℤ) (i : ℕ) (L : List Line) → Every P L → i < length L → getD L i none ≡ line f w → P f

@@ -21,7 +21,7 @@ use Rattle.configuration.specs.declared.Verdict.{Verdict}
 use Rattle.configuration.specs.declared.Verdict.the-variants.{Done, TooManyLines, WeightTooLarge}
 use Rattle.configuration.specs.Replacement.{Step, refused, Replacement, verdictNumber, replacementOf, taken, unless, within, Small, after, replaced, weightsBefore, weightsAfter, placesIn, countHeld, chosen, shifted, Room}
 use Rattle.configuration.specs.Sums.{zero-is, solve, v, _⊞_}
-use Rattle.configuration.specs.ConfigurationLaws.{same-is, weight-all, add-ordered, all-ordered, weight-behind, weight-head, unique, netted}
+use Rattle.configuration.specs.ConfigurationLaws.{same-is, weight-all, add-ordered, all-ordered, weight-behind, weight-head, unique}
 use Rattle.configuration.specs.PlaceLaws.{toNat, grown, weight-other, not-same, lost, gained, length-all, outcomesFit, weights-all}
 
 -- ---- the weights afterwards
@@ -260,11 +260,6 @@ pub replace-is : (N : List Line) (m : Memory) → Ordered N → Ordered (linesOf
     (unless (allInRange (weightsAfter N (linesOf m))) 11 (taken (addAll N (linesOf m)))))
 unfolding replaced within
 replace-is N m s r h = rw (few-lines N (linesOf m) s r, after-fits N (linesOf m) s r h)
-
--- changes that are folded among themselves first replace as they do one by one
-pub replaced-netted : (C : List Line) (m : Memory) → Ordered (linesOf m) → replaced (addAll C []) m ≡ replaced C m
-unfolding replaced
-replaced-netted C m r = ap (λ (L : List Line). after m (within L)) (netted C (linesOf m) r)
 
 -- ---- what the two passes leave
 pub room-length : (N L : List Line) → length L ≤ 128 → Room N L → length (addAll N L) ≤ 128

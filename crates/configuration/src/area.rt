@@ -7,34 +7,30 @@ ghost use lib.ListN.{length, take, drop, replicate};
 ghost use lib.Seq.{slice};
 ghost use Rattle.configuration.specs.Memory.{zeros, zeroWeights};
 
-// Whether every number of an area is zero. It does not stop at the first that is not, so that several are looked at at once.
+// Whether every number of an area is zero: their bits are joined, without a branch, so that several are looked at at once.
 pub fn is_zero(area: &[u32]) -> bool
     ensures { λ r. ⌜ r ≡ zeros (now (area .entry)) ⌝ }
 {
-    let mut others: usize = 0;
+    let mut bits: u32 = 0;
     let mut i: usize = 0;
     while i < area.len() {
-        if area[i] != 0 {
-            others += 1;
-        }
+        bits = bits | area[i];
         i += 1;
     }
-    others == 0
+    bits == 0
 }
 
 // Whether every weight of a run is zero, in the same way.
 pub fn is_weightless(weights: &[i64]) -> bool
     ensures { λ r. ⌜ r ≡ zeroWeights (now (weights .entry)) ⌝ }
 {
-    let mut others: usize = 0;
+    let mut bits: i64 = 0;
     let mut i: usize = 0;
     while i < weights.len() {
-        if weights[i] != 0 {
-            others += 1;
-        }
+        bits = bits | weights[i];
         i += 1;
     }
-    others == 0
+    bits == 0
 }
 
 // Sets the numbers from start to end to zero.

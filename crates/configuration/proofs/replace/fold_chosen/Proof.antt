@@ -19,9 +19,9 @@ use Rattle.configuration.specs.declared.Head.{Head}
 use Rattle.configuration.specs.Index.{keyIn, arranged, indexedOf, linesBy, firstKey, Kept}
 use Rattle.configuration.specs.PlaceLaws.{place-le}
 use Rattle.configuration.specs.MemoryLaws.{formed-parts}
-use Rattle.configuration.proofs.Areas.{read-back}
+use Rattle.configuration.proofs.Areas.{read-back, zero-bits}
 use Rattle.configuration.proofs.Forms.{rowAt}
-use Rattle.configuration.proofs.Replacements.{entry-key, none, zero-bits, line-here, row-polynomial, table-ordered, table-length, Read, read, in-index, fold-asks, fold-gives, Folding, folding-none, folding-all, folding-skip, folding-room, folding-fits, folding-some, folding-place, folding-weight, folding-more}
+use Rattle.configuration.proofs.Replacements.{entry-key, none, line-here, row-polynomial, table-ordered, table-length, Read, read, in-index, fold-asks, fold-gives, Folding, folding-none, folding-all, folding-skip, folding-room, folding-fits, folding-some, folding-place, folding-weight, folding-more}
 use Rattle.configuration.proofs.replace.fold_chosen.Statement.{statement}
 use Rattle.configuration.proofs.replace.fold_chosen.Tie as tie
 
