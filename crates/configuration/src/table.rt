@@ -53,9 +53,9 @@ fn order_at(entry: u64, key: u64, terms: &[u32], counts: &[u32], f: &[u32]) -> O
     compare(f, row(terms, here, count))
 }
 
-// Finds the place of a polynomial, not 0, whose first term has the given key: by the keys of the first terms, then among those
-// that follow. Few lines have one first term, so the first line is looked at first, and a probe reaches twice as far as the one
-// before, at most to the middle of the rest.
+// Finds the place of a polynomial, not 0, whose first term has the given key: by the keys of the first terms, then from the first
+// line that is not ahead by its key. Few lines share a first term, so that line is looked at first, and each probe reaches twice
+// as far as the one before, at most to the middle of the rest.
 fn find(
     head: Head,
     index: &[u64],
@@ -106,7 +106,7 @@ pub struct Known {
     pub weight: i64,
 }
 
-// Looks a polynomial, not 0, up, whose first term has the given key.
+// Looks up a polynomial, not 0, whose first term has the given key.
 pub fn look_up(
     head: Head,
     index: &[u64],

@@ -24,7 +24,7 @@ use Rattle.record.proofs.Bodies.{amount-whole}
 use Rattle.calculus.specs.Calculus.{leftOf, leaves}
 use Rattle.calculus.specs.declared.Answer.{Answer}
 use Rattle.derivation.specs.Derivation.{onStep}
-use Rattle.derivation.specs.Held.{progressOf}
+use Rattle.derivation.specs.Held.{progressOf, Ready}
 use Rattle.derivation.proofs.Steps.{step-misplaced, step-unset, step-cut, step-refused, step-accepted}
 use Rattle.derivation.proofs.entry.on_step.Statement.{statement}
 use Rattle.calculus.specs.Calculus as C
@@ -105,18 +105,25 @@ returns-3 c =
     CutShort (c .refused3 .result) (c .refused3 .ensures) x
     (step-cut (bytes s) p (now (a .first)) (now (a .work)) (now (a .index)) (now (a .terms)) (now (a .weights)) (now (a .counts)) (a .rule) (going-on k) (is-set k) d)
 
+-- ---- the operands are at the fronts of their areas; that they are f and g, in this order, is for `told` to say
+ready : (k : tie.After-read-amount) → (let a = start k .args in
+    Ready (a .p .head .variables) (a .p) (now (a .first)) (now (a .work)) (now (a .index)) (now (a .terms)) (now (a .weights)) (now (a .counts)))
+ready k = start k .pre .1
+
 slice-aggregate-step : tie.Need-slice-aggregate-step
 slice-aggregate-step c =
-    let s = start (c .before .before .before .before .before .before .before .before .before) in
-    sym (length-take-le (s .args .p .first) (now (s .args .first)) (omega (arith, s .pre .1 .first-room, s .pre .1 .first-area)))
+    let r = ready (c .before .before .before .before .before .before .before .before .before) in
+    sym (length-take-le _ _ (omega (arith, r .first-room, r .first-area, r .room, r .area)))
 
 slice-aggregate-step-2 : tie.Need-slice-aggregate-step-2
 slice-aggregate-step-2 c =
-    let s = start (c .before .before .before .before .before .before .before .before .before .before) in
-    sym (length-take-le (s .args .p .work) (now (s .args .work)) (omega (arith, s .pre .1 .room, s .pre .1 .area)))
+    let r = ready (c .before .before .before .before .before .before .before .before .before .before) in
+    sym (length-take-le _ _ (omega (arith, r .first-room, r .first-area, r .room, r .area)))
 
 step-requires : tie.Need-step-requires
-step-requires c κs = let r = start (c .before .before .before .before .before .before .before .before .before .before) .pre .1 in (r .kept, r .well, r .operand, r .polynomial)
+step-requires c κs =
+    let r = ready (c .before .before .before .before .before .before .before .before .before .before) in
+    search (needs, r .kept, r .well, r .operand, r .polynomial)
 
 -- where the step was taken
 abbrev came : tie.After-step → tie.Start
