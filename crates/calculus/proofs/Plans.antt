@@ -9,7 +9,7 @@ use native.Mathlib.Nat.{le-trans}
 use native.Mathlib.Omega.{arith}
 use lib.Dec.{T, leb, leb→le, eqb}
 use lib.IntN.{ℤ, pos, negsuc, _+ℤ_, _-ℤ_, negℤ, +ℤ-idl}
-use lib.ListN.{length, replicate}
+use lib.ListN.{length, take, replicate, length-take}
 use lib.Pow.{pow-mono}
 use lib.Signed.{ltZ, leZ, mag}
 use mir.Syntax.{w64}
@@ -17,8 +17,8 @@ use mir.Val.{SFits, toZ, ofZ}
 use mir.Facts.{toZ-ofZ}
 use borrow.Author.Tests.{ltb-true, ltb-false, le-leb, lt-leb, ne-eqb}
 use Rattle.run.specs.Boolean.{of-true}
-use Rattle.polynomial.specs.Polynomial.{sumOf, productOf, Below}
-use Rattle.polynomial.specs.PolynomialLaws.{product-plus-one}
+use Rattle.polynomial.specs.Polynomial.{sumOf, productOf, Below, firstLong, placed}
+use Rattle.polynomial.specs.PolynomialLaws.{product-plus-one, exact}
 use Rattle.configuration.specs.Weight.{limit, inRange}
 use Rattle.configuration.specs.Configuration.{Line, line, weight, add, addAll, negated, Every, isPolynomial, linesFit}
 use Rattle.configuration.specs.ConfigurationLaws.{all-ordered, all-fit}
@@ -93,9 +93,14 @@ module _ (r : ℕ) (l : List ℕ) (e : r ≡ length l) where
   pub short : r ≤ 64 → leb (length l) 64 ≡ true
   short h = le-leb (length l) 64 (omega arith)
 
--- the operands, as sum and product ask for them, with an area of 64
-pub lent : (n : ℕ) (f g : List ℕ) → T (isPolynomial n f) → T (isPolynomial n g) → (length f ≤ 64) × (length g ≤ 64) × (length (replicate {A = ℕ} 64 0) ≡ 64)
-lent n f g h k = (polynomial-short n f h, polynomial-short n g k, refl)
+-- an exact result l of two polynomials: its length, and where they fit its terms, in front of an area
+pub exact-of : (n : ℕ) (f g l area out : List ℕ) (r : ℕ) → T (isPolynomial n f) → T (isPolynomial n g)
+    → (r ≡ length (firstLong f g l)) × (out ≡ placed (firstLong f g l) area) → (r ≡ length l) × (r ≤ 64 → take r out ≡ l)
+exact-of n f g l area out r h k = exact f g l area out r (polynomial-short n f h) (polynomial-short n g k)
+
+-- where they fit, the area has room for them
+pub room : (l area : List ℕ) (r : ℕ) → (r ≡ length l) × (r ≤ 64 → take r area ≡ l) → r ≤ 64 → r ≤ length area
+room l area r told h = omega (arith, told .0, ap length (told .1 h), length-take r area)
 
 -- the terms of a problem's polynomials are 32-bit numbers
 pub below-32 : (n : ℕ) (f : List ℕ) → n ≤ 32 → T (isPolynomial n f) → Below 32 f

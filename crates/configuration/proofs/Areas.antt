@@ -1,4 +1,4 @@
--- The steps of the loops that test, write and move parts of an area, over plain lists of any elements; and the bits of a weight.
+-- The steps of the loops that test and move parts of an area, over plain lists of any elements; and the bits of a weight.
 use mathlib.Core.Path.{_≡_, refl, sym, ap, ap₂, _∙_}
 use mathlib.Core.Bool.{Bool, true, false, not, _&&_}
 use mathlib.Core.List.{List, [], _∷_, _++_, append-assoc}
@@ -9,12 +9,13 @@ use lib.Bits.{bitOr, or-add-and, and-le-l, and-le-r, or-lt}
 use lib.Dec.{eqb, ltb}
 use lib.IntN.{ℤ, pos, negsuc}
 use lib.ListN.{length, getD, take, drop, set, length-append, drop-of-length-le, take-append-drop, List·getD-append}
-use lib.Seq.{slice, slice-cons, slice-empty, length-slice, paste, paste-zero, paste-suc, length-paste-head, drop-cons, take-suc, take-all, append-snoc, length-take-le, set-at, getD-take, getD-drop, getD-append-add}
+use lib.Seq.{slice, slice-cons, slice-empty, length-slice, paste, drop-cons, take-suc, append-snoc, length-take-le, set-at, getD-take, getD-drop}
 use lib.Signed.{mag}
 use mir.Syntax.{w64}
 use mir.Val.{toZ, ofZ}
 use mir.Facts.{toZ-ofZ}
 use borrow.Author.Tests.{ne-eqb, lt-ltb, le-ltb, ltb-true, ltb-false}
+use Rattle.run.proofs.Pasted.{none-pasted, more-pasted, all-pasted, behind}
 use Rattle.configuration.specs.Weight.{isZero, isNegative}
 
 -- ---- a test of every element, from the first on
@@ -66,28 +67,6 @@ module _ {A : Type 0} (test : A → Bool) (every : List A → Bool)
   first-ends h = ends test every none more (take n l) i z (omega (arith, length-take-le n l k)) inv
 
 module _ {A : Type 0} where
-  -- ---- a run s is written over d from a place on
-  pub none-pasted : (d s : List A) (at n : ℕ) → n ≡ 0 → d ≡ paste d at s n
-  none-pasted d s at n e = rw e (paste-zero d at s)
-
-  pub more-pasted : (d s m : List A) (at j k n : ℕ) (v z : A) → at + j < length d → j < length s
-      → k ≡ at + j → n ≡ suc j → v ≡ getD s j z → m ≡ paste d at s j → set m k v ≡ paste d at s n
-  more-pasted d s m at j k n v z hd hs ek en ev inv = rw (inv, ek, en, ev) (paste-suc d at s j z hd hs)
-
-  pub all-pasted : (d s m : List A) (at j n : ℕ) → j ≡ length s → n ≡ at + j → m ≡ paste d at s j → m ≡ take at d ++ (s ++ drop n d)
-  all-pasted d s m at j n ej en inv =
-      let h : length s ≤ j = omega arith in
-      inv ∙ ap₂ (λ (x : List A) (k : ℕ). take at d ++ x ++ drop k d) (take-all j s h) (sym en) ∙ append-assoc (take at d) s (drop n d)
-
-  -- what lies behind the run is as it was
-  pub behind : (d s m : List A) (at j i : ℕ) (z : A) → at ≤ length d → j ≤ length s → at + j ≤ i → m ≡ paste d at s j → getD m i z ≡ getD d i z
-  behind d s m at j i z hd hs h inv =
-      let p = take at d ++ take j s in
-      let e : i ≡ length p + (i - (at + j)) = omega (arith, length-paste-head d at s j hd hs) in
-      let r : at + j + (i - (at + j)) ≡ i = omega arith in
-      ap₂ (λ (x : List A) (k : ℕ). getD x k z) inv e ∙ getD-append-add p (drop (at + j) d) (i - (at + j)) z
-      ∙ getD-drop (at + j) d (i - (at + j)) z ∙ ap (λ (k : ℕ). getD d k z) r
-
   -- ---- the elements behind a place, up to the end, move down by one, the first first: those before i have moved
   abbrev pub lowered : List A → ℕ → ℕ → ℕ → List A
   lowered l at end i = paste l at (slice (at + 1) end l) (i - (at + 1))

@@ -11,7 +11,7 @@ use lib.Seq.{slice, length-slice, paste, paste-zero, length-paste, length-take-l
 use borrow.Author.Tests.{lt-ltb, le-ltb}
 use Rattle.run.specs.Boolean.{cond-ind}
 use Rattle.configuration.specs.Index.{keyIn, ahead, Falling}
-use Rattle.configuration.proofs.Areas.{more-pasted, all-pasted, behind}
+use Rattle.run.proofs.Pasted.{more-pasted, all-pasted, behind}
 
 -- ---- how many entries at the front have a key above k
 pub ahead-le : (k : ℕ) (is : List ℕ) → ahead k is ≤ length is

@@ -1,5 +1,4 @@
-// Parts of an area. These functions are for those of this crate that put lines in and take them out; the check of derivations
-// also writes a run of terms.
+// Parts of an area. These functions are for those of this crate that test areas, put lines in and take them out.
 ghost use mathlib.Core.Path.{_≡_};
 ghost use mathlib.Core.List.{_++_, _∷_};
 ghost use Prim.Native.Nat.{_+_, _-_, _≤_, _<_};
@@ -41,18 +40,6 @@ pub fn clear(area: &mut [u32], start: usize, end: usize)
     let mut i = start;
     while i < end {
         area[i] = 0;
-        i += 1;
-    }
-}
-
-// Writes a run of numbers into an area from a place on.
-pub fn write(area: &mut [u32], at: usize, run: &[u32])
-    requires { ⌜ at + length (now run) ≤ length (now area) ⌝ }
-    ensures { λ _. ⌜ now (area .exit) ≡ take at (now (area .entry)) ++ (now (run .entry) ++ drop (at + length (now (run .entry))) (now (area .entry))) ⌝ }
-{
-    let mut i: usize = 0;
-    while i < run.len() {
-        area[at + i] = run[i];
         i += 1;
     }
 }

@@ -1,11 +1,10 @@
 -- Products by a table: where the products of the terms of two polynomials differ in few variables, each subset of these has a place in a table.
-use mathlib.Core.Bool.{Bool, cond, _&&_}
+use mathlib.Core.Bool.{cond}
 use mathlib.Core.List.{List, [], _∷_, map}
-use Prim.Native.Nat.{ℕ, zero, suc, _*_}
+use Prim.Native.Nat.{ℕ, zero, suc}
 use lib.Bits.{bitAnd, bitOr, bitXor}
-use lib.Dec.{eqb, leb, ltb}
+use lib.Dec.{eqb, leb}
 use lib.ListN.{length, getD, set}
-use Rattle.term.specs.Term.{degreeOf}
 use Rattle.polynomial.specs.Polynomial.{unions, has, subsetsOf}
 
 -- the variables of a list of terms, joined to those of v
@@ -32,10 +31,6 @@ varyingOf f g = bitXor (bitOr (variablesOf f g) (commonOf f g)) (commonOf f g)
 -- how many variables there may be for so many pairs of terms, if a table is to pay
 abbrev pub mostVariables : ℕ → ℕ
 mostVariables pairs = cond (leb pairs 64) 8 (cond (leb pairs 128) 10 12)
-
--- whether a product is made by a table
-abbrev pub suitable : List ℕ → List ℕ → Bool
-suitable f g = ltb 16 (length f * length g) && leb (degreeOf (varyingOf f g)) (mostVariables (length f * length g))
 
 -- a place where a term has variable i, and 0 where it has not
 abbrev pub digit : ℕ → ℕ → ℕ → ℕ

@@ -7,18 +7,18 @@ use native.Mathlib.Nat.{mul-le-mul-right, one-mul, zero-mul, mod-one, mod-eq-of-
 use native.Mathlib.Omega.{arith}
 use lib.Bits.{bitAnd, bitOr, bitXor, or-step, or-lt, or-shifted-r, or-block, or-shr, or-mod, or-zero-r, or-disjoint, xor-shr, xor-add-and, and-comm, and-zero-r, and-le-r}
 use lib.Count.{ones}
-use lib.Dec.{T, eqb, eqb→eq, leb, leb→le, ltb, ltb→lt}
+use lib.Dec.{T, eqb, eqb→eq, leb, ltb→lt, lit≤}
 use lib.ListN.{length, getD, replicate, set, length-set, length-append, length-map, length-replicate, getD-replicate, List·getD-append}
 use lib.Seq.{getD-set-same, getD-set-other, getD-append-add}
 use borrow.Author.Tests.{eqb-true, eqb-false, ne-eqb}
-use Rattle.term.specs.Term.{value, degreeOf, before}
+use Rattle.term.specs.Term.{value, before}
 use Rattle.term.specs.TermLaws.{bit, value-self, value-bits}
-use Rattle.run.specs.Boolean.{bool-ext, right, eq→eqb, eqb-self, cond-ind}
+use Rattle.run.specs.Boolean.{bool-ext, eq→eqb, eqb-self, cond-ind}
 use Rattle.run.specs.F2.{_⊕_, ⊕-assoc, ⊕-left, ⊕-false}
 use Rattle.run.specs.Run.{After, Sorted, All, odd}
 use Rattle.run.specs.RunLaws.{odd-after, after-all, all-after, normal-same}
 use Rattle.polynomial.specs.ClauseLaws.{has-one, has-none, and-bit, has-and, mod-suc, subsets-count, subsets-within, ascending, ascends, all-map, subsets-ascend, subsets-apart}
-use Rattle.polynomial.specs.Few.{joined, variablesOf, shared, commonOf, varyingOf, mostVariables, suitable, digit, indexOf, productIndices, toggled, chosen}
+use Rattle.polynomial.specs.Few.{joined, variablesOf, shared, commonOf, varyingOf, mostVariables, digit, indexOf, productIndices, toggled, chosen}
 use Rattle.polynomial.specs.Polynomial.{normal, unions, productOf, has, subsetsOf, Uses}
 use Rattle.polynomial.specs.PolynomialLaws.{written, times-all, unions-all, unions-uses}
 
@@ -380,17 +380,11 @@ table-product c m n f g ec em h room =
     ∙ normal-same before written (map (bitOr c) (chosen (subsetsOf 32 m) (tableOf n m (unions f g)))) (unions f g)
     (λ t. table-odd c m n t (unions f g) h room (rw (ec, em) (varying-apart f g)) (rw (ec, em) (products-join f g)))
 
--- where a product is made by a table there are at most 12 variables
-pub suitable-few : (f g : List ℕ) → T (suitable f g) → degreeOf (varyingOf f g) ≤ 12
-suitable-few f g h = few (leb n 64) (leb n 128) (leb→le d (mostVariables n) (right (ltb 16 n) (leb d (mostVariables n)) h))
+-- a product is made by a table where there are at most 12 variables
+pub most-few : (n : ℕ) → mostVariables n ≤ 12
+most-few n = few (leb n 64) (leb n 128)
   where
-    n : ℕ
-    n = length f * length g
-
-    d : ℕ
-    d = degreeOf (varyingOf f g)
-
-    few : (a b : Bool) → d ≤ cond a 8 (cond b 10 12) → d ≤ 12
-    few true b k = omega arith
-    few false true k = omega arith
-    few false false k = k
+    few : (a b : Bool) → cond a 8 (cond b 10 12) ≤ 12
+    few true b = lit≤ tt
+    few false true = lit≤ tt
+    few false false = lit≤ tt

@@ -5,7 +5,7 @@ use mathlib.Core.List.{List, [], _∷_, _++_, map}
 use Prim.Native.Nat.{ℕ, zero, suc, _-_, _/_, _%_, _^_, _<_}
 use lib.Dec.{T, eqb, leb}
 use lib.Bits.{bitOr}
-use lib.ListN.{length, take, replicate}
+use lib.ListN.{length, take, drop, replicate}
 use Rattle.term.specs.Term.{value, before}
 use Rattle.run.specs.F2.{_⊕_}
 use Rattle.run.specs.Run.{normalBy, Sorted, All}
@@ -100,3 +100,12 @@ polynomialOf l = record { terms = l ++ replicate (64 - length l) 0; count = leng
 -- the answer for an exact result: its length, and the polynomial itself where that is at most 64, else 0
 abbrev pub outcomeOf : List ℕ → Outcome
 outcomeOf l = record { length = length l; polynomial = cond (leb (length l) 64) (polynomialOf l) (polynomialOf []) }
+
+-- ---- lent runs and areas
+-- what is answered of a sum or a product l of two runs: a run of more than 64 terms is no polynomial and stands for itself, f before g; else l
+abbrev pub firstLong : List ℕ → List ℕ → List ℕ → List ℕ
+firstLong f g l = cond (leb (length f) 64) (cond (leb (length g) 64) l g) f
+
+-- an area of 64 once l is written to its front; where l has more terms, the area stays as it is
+abbrev pub placed : List ℕ → List ℕ → List ℕ
+placed l area = cond (leb (length l) 64) (l ++ drop (length l) area) area

@@ -1,13 +1,15 @@
 -- Laws of the values, the order and the variables of polynomials, and of their being determined by their values.
 use mathlib.Core.Path.{_≡_, refl, sym, ap, ap₂, _∙_}
-use mathlib.Core.Bool.{Bool, true, false, _&&_, and-false, true≢false}
+use mathlib.Core.Bool.{Bool, true, false, _&&_, and-comm, and-false, true≢false}
 use mathlib.Core.List.{List, [], _∷_, _++_, map}
-use Prim.Native.Nat.{ℕ, _-_, _^_, _<_}
+use Prim.Native.Nat.{ℕ, _-_, _^_, _≤_, _<_}
+use native.Mathlib.Omega.{arith}
 use lib.Dec.{T, eqb, eqb→eq}
 use lib.Bits.{bitOr}
-use lib.ListN.{length, replicate}
+use lib.ListN.{length, take, drop, replicate}
 use lib.Pow.{pow-pos}
 use lib.Seq.{take-at}
+use borrow.Author.Tests.{le-leb, lt-leb}
 use Rattle.term.specs.Term.{value, before}
 use Rattle.run.specs.Boolean.{both, is-true, cond-ind, of-true}
 use Rattle.term.specs.TermLaws.{value-or, value-one, value-self, below-value, value-below}
@@ -15,7 +17,7 @@ use Rattle.term.specs.OrderLaws.{before-irrefl, before-trans, before-total, val
 use Rattle.run.specs.F2.{_⊕_, ⊕-assoc, ⊕-left, ⊕-cancel, ⊕-self, ⊕-zero, &&-⊕, ⊕-&&}
 use Rattle.run.specs.Run.{StrictOrder, toggleBy, normalBy, After, All, odd}
 use Rattle.run.specs.RunLaws.{odd-append, odd-normal, odd-unique, normal-all, normal-sorted, all-append}
-use Rattle.polynomial.specs.Polynomial.{eval, normal, unions, sumOf, productOf, Ordered, Uses, Below, termsOf, polynomialOf}
+use Rattle.polynomial.specs.Polynomial.{eval, normal, unions, sumOf, productOf, Ordered, Uses, Below, termsOf, polynomialOf, firstLong, placed}
 use Rattle.polynomial.specs.declared.Polynomial.{Polynomial}
 
 -- the written order is a strict total order
@@ -161,6 +163,39 @@ product-plus-one n f g a b = unique n (productOf f g₁) (sumOf (productOf f g) 
     at true false = refl
     at false y = refl
 
+-- g f is f g
+pub product-turned : (n : ℕ) (f g : List ℕ) → Below n f → Below n g → productOf g f ≡ productOf f g
+product-turned n f g a b = unique n (productOf g f) (productOf f g) (product-ordered g f) (product-ordered f g) (product-below n g f b a) (product-below n f g a b)
+    (λ α k. eval-product g f α ∙ and-comm (eval g α) (eval f α) ∙ sym (eval-product f g α))
+
 -- ---- a polynomial by value has the terms that it was made of
 pub terms-of : (l : List ℕ) (p : Polynomial) → p ≡ polynomialOf l → termsOf p ≡ l
 terms-of l p e = rw e (take-at l (replicate (64 - length l) 0) (length l) refl)
+
+-- ---- an area of 64, once l is written to its front
+pub placed-short : (l area : List ℕ) → length l ≤ 64 → placed l area ≡ l ++ drop (length l) area
+placed-short l area h = rw (le-leb (length l) 64 h)
+
+pub placed-long : (l area : List ℕ) → 64 < length l → placed l area ≡ area
+placed-long l area h = rw (lt-leb (length l) 64 h)
+
+-- ---- what is answered of a sum or a product l of two runs: the first of them that is too long, or l
+module _ (f g l : List ℕ) where
+  pub first-long : 64 < length f → firstLong f g l ≡ f
+  first-long h = rw (lt-leb (length f) 64 h)
+
+  pub second-long : length f ≤ 64 → 64 < length g → firstLong f g l ≡ g
+  second-long h k = rw (le-leb (length f) 64 h, lt-leb (length g) 64 k)
+
+  pub none-long : length f ≤ 64 → length g ≤ 64 → firstLong f g l ≡ l
+  none-long h k = rw (le-leb (length f) 64 h, le-leb (length g) 64 k)
+
+  -- of two polynomials: how many terms l has, and where they are at most 64 these terms, in front of an area
+  pub exact : (area out : List ℕ) (r : ℕ) → length f ≤ 64 → length g ≤ 64
+      → (r ≡ length (firstLong f g l)) × (out ≡ placed (firstLong f g l) area) → (r ≡ length l) × (r ≤ 64 → take r out ≡ l)
+  exact area out r h k told =
+      let e = none-long h k in
+      let size : r ≡ length l = told .0 ∙ ap length e in (
+        size,
+        λ short. ap (take r) (told .1 ∙ ap (λ (x : List ℕ). placed x area) e ∙ placed-short l area (omega arith)) ∙ take-at l (drop (length l) area) r (sym size),
+      )

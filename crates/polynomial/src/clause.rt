@@ -1,11 +1,15 @@
-// The subsets of a set of variables, of which a clause's terms are made.
+// The polynomial of a clause, whose terms are made of the subsets of its plain literals.
+use crate::Outcome;
+use crate::Polynomial;
+use crate::sorting::ordered_keys;
+use crate::sorting::write_masks;
 ghost use mathlib.Core.Path.{_≡_};
 ghost use mathlib.Core.List.{_++_, map};
 ghost use Prim.Native.Nat.{_+_, _^_, _≤_};
 ghost use lib.Bits.{bitOr};
 ghost use lib.ListN.{length, take};
 ghost use Rattle.term.specs.Term.{degreeOf};
-ghost use Rattle.polynomial.specs.Polynomial.{subsetsOf};
+ghost use Rattle.polynomial.specs.Polynomial.{subsetsOf, clauseOf, outcomeOf};
 
 // Writes the first masks of an area once more behind themselves, each with a term joined to it.
 fn double(out: &mut [u32], count: usize, joined: u32)
@@ -36,4 +40,22 @@ pub fn subsets(mask: u32, out: &mut [u32]) -> usize
         i += 1;
     }
     count
+}
+
+// The polynomial of a clause of at most six plain literals, none of whose variables stands both ways.
+pub fn short_clause(plain: u32, negated: u32) -> Outcome
+    requires { ⌜ degreeOf plain ≤ 6 ⌝ }
+    ensures { λ r. ⌜ r ≡ outcomeOf (clauseOf plain negated) ⌝ }
+{
+    let mut masks = [0u32; 64];
+    let mut keys = [0u64; 64];
+    let mut spare = [0u64; 64];
+    let mut terms = [0u32; 64];
+    let n = subsets(plain, &mut masks);
+    let m = ordered_keys(negated, &masks[..n], &mut keys, &mut spare);
+    let count = write_masks(&keys[..m], &mut terms);
+    Outcome {
+        length: count,
+        polynomial: Polynomial { terms, count },
+    }
 }

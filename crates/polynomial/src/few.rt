@@ -2,8 +2,8 @@
 // subset of the others has a place in a table, and each product of two terms toggles its place. These functions are for this
 // crate.
 use crate::clause::subsets;
-use crate::ordered_keys;
-use crate::write_masks;
+use crate::sorting::ordered_keys;
+use crate::sorting::write_masks;
 ghost use mathlib.Core.Path.{_≡_};
 ghost use mathlib.Core.List.{map};
 ghost use Prim.Native.Nat.{ℕ, _^_, _≤_, _<_};
@@ -12,8 +12,8 @@ ghost use lib.ListN.{length, getD, take, replicate};
 ghost use Rattle.term.specs.Term.{degreeOf};
 ghost use Rattle.run.specs.Run.{All, Sorted};
 ghost use Rattle.polynomial.specs.ClauseLaws.{ascending};
-ghost use Rattle.polynomial.specs.Few.{joined, variablesOf, shared, commonOf, varyingOf, digit, withDigits, indexOf, productIndices, toggled, chosen, mostVariables, suitable};
-ghost use Rattle.polynomial.specs.Polynomial.{normal, unions, productOf};
+ghost use Rattle.polynomial.specs.Few.{joined, variablesOf, shared, commonOf, varyingOf, digit, withDigits, indexOf, productIndices, toggled, chosen, mostVariables};
+ghost use Rattle.polynomial.specs.Polynomial.{normal, unions, productOf, placed};
 
 // The variables of a run of terms, joined to those of a mask.
 fn variables_with(mask: u32, terms: &[u32]) -> u32
@@ -49,17 +49,17 @@ fn shared_with(mask: u32, terms: &[u32]) -> u32
 }
 
 // The variables that every product of a term of f with a term of g has.
-fn common(f: &[u32], g: &[u32]) -> u32
+pub fn common(f: &[u32], g: &[u32]) -> u32
     ensures { λ r. ⌜ r ≡ commonOf (now (f .entry)) (now (g .entry)) ⌝ }
 {
     shared_with(4294967295, f) | shared_with(4294967295, g)
 }
 
 // The other variables of two runs of terms.
-fn varying(f: &[u32], g: &[u32]) -> u32
+pub fn varying(fixed: u32, f: &[u32], g: &[u32]) -> u32
+    requires { ⌜ fixed ≡ commonOf (now f) (now g) ⌝ }
     ensures { λ r. ⌜ r ≡ varyingOf (now (f .entry)) (now (g .entry)) ⌝ }
 {
-    let fixed = common(f, g);
     (variables(f, g) | fixed) ^ fixed
 }
 
@@ -163,7 +163,7 @@ fn choose(masks: &mut [u32], table: &[u8]) -> usize
 fn arranged(fixed: u32, masks: &[u32], out: &mut [u32]) -> usize
     requires { ⌜ Sorted ascending (now masks) × All (λ t. bitAnd fixed t ≡ 0) (now masks) × (length (now out) ≡ 64) ⌝ }
     ensures size { λ r. ⌜ r ≡ length (normal (map (bitOr fixed) (now (masks .entry)))) ⌝ }
-    ensures sum { λ r. ⌜ (r ≤ 64 → take r (now (out .exit)) ≡ normal (map (bitOr fixed) (now (masks .entry)))) ⌝ }
+    ensures sum { λ _. ⌜ now (out .exit) ≡ placed (normal (map (bitOr fixed) (now (masks .entry)))) (now (out .entry)) ⌝ }
 {
     let count = masks.len();
     if 64 < count {
@@ -189,7 +189,7 @@ fn product_by(
     requires { ⌜ (length (now f) ≤ 64) × (length (now g) ≤ 64) × (fixed ≡ commonOf (now f) (now g)) × (mask ≡ varyingOf (now f) (now g)) × (degreeOf mask ≤ 12)
         × (2 ^ degreeOf mask ≤ length (now masks)) × (2 ^ degreeOf mask ≤ length (now table)) × (now table ≡ replicate (length (now table)) 0) × (length (now out) ≡ 64) ⌝ }
     ensures size { λ r. ⌜ r ≡ length (productOf (now (f .entry)) (now (g .entry))) ⌝ }
-    ensures product { λ r. ⌜ (r ≤ 64 → take r (now (out .exit)) ≡ productOf (now (f .entry)) (now (g .entry))) ⌝ }
+    ensures product { λ _. ⌜ now (out .exit) ≡ placed (productOf (now (f .entry)) (now (g .entry))) (now (out .entry)) ⌝ }
 {
     toggle_products(mask, f, g, table);
     let places = subsets(mask, masks);
@@ -198,7 +198,7 @@ fn product_by(
 }
 
 // How many variables there may be for so many pairs of terms, if a table is to pay.
-fn most_variables(pairs: usize) -> u32
+pub fn most_variables(pairs: usize) -> u32
     ensures { λ r. ⌜ r ≡ mostVariables pairs ⌝ }
 {
     if pairs <= 64 {
@@ -207,27 +207,13 @@ fn most_variables(pairs: usize) -> u32
     if pairs <= 128 { 10 } else { 12 }
 }
 
-// Whether the product of two runs of terms is made by a table.
-pub fn suits(f: &[u32], g: &[u32]) -> bool
-    requires { ⌜ (length (now f) ≤ 64) × (length (now g) ≤ 64) ⌝ }
-    ensures { λ r. ⌜ r ≡ suitable (now (f .entry)) (now (g .entry)) ⌝ }
-{
-    let pairs = f.len() * g.len();
-    if pairs <= 16 {
-        return false;
-    }
-    term::degree(varying(f, g)) <= most_variables(pairs)
-}
-
-// The product of two runs of terms whose products differ in at most 12 variables. Few variables get small areas, since an area
-// is cleared each time.
-pub fn product_few(f: &[u32], g: &[u32], out: &mut [u32]) -> usize
-    requires { ⌜ (length (now f) ≤ 64) × (length (now g) ≤ 64) × (degreeOf (varyingOf (now f) (now g)) ≤ 12) × (length (now out) ≡ 64) ⌝ }
+// The product of two runs of terms, of which one mask has the variables that every product has, and another the rest, at most 12.
+// Few variables get small areas, since an area is cleared each time.
+pub fn product_few(fixed: u32, mask: u32, f: &[u32], g: &[u32], out: &mut [u32]) -> usize
+    requires { ⌜ (length (now f) ≤ 64) × (length (now g) ≤ 64) × (fixed ≡ commonOf (now f) (now g)) × (mask ≡ varyingOf (now f) (now g)) × (degreeOf mask ≤ 12) × (length (now out) ≡ 64) ⌝ }
     ensures size { λ r. ⌜ r ≡ length (productOf (now (f .entry)) (now (g .entry))) ⌝ }
-    ensures product { λ r. ⌜ (r ≤ 64 → take r (now (out .exit)) ≡ productOf (now (f .entry)) (now (g .entry))) ⌝ }
+    ensures product { λ _. ⌜ now (out .exit) ≡ placed (productOf (now (f .entry)) (now (g .entry))) (now (out .entry)) ⌝ }
 {
-    let fixed = common(f, g);
-    let mask = varying(f, g);
     if term::degree(mask) <= 8 {
         let mut masks = [0u32; 256];
         let mut table = [0u8; 256];

@@ -4,7 +4,7 @@ use mathlib.Core.Path.{_≡_, refl, sym, ap, _∙_}
 use mathlib.Core.Logic.{_⊎_, inl, inr}
 use mathlib.Core.Bool.{true}
 use mathlib.Core.List.{List, [], _∷_}
-use Prim.Native.Nat.{ℕ}
+use Prim.Native.Nat.{ℕ, _≤_}
 use native.Mathlib.Omega.{arith}
 use lib.Dec.{T, leb}
 use lib.IntN.{ℤ, pos, _-ℤ_, negℤ}
@@ -17,14 +17,16 @@ use mir.Facts.{toZ-ofZ}
 use borrow.Author.Needs.{needs}
 use Rattle.run.specs.Boolean.{of-true}
 use Rattle.polynomial.specs.Polynomial.{sumOf, productOf}
+use Rattle.polynomial.specs.PolynomialLaws.{exact}
 use Rattle.configuration.specs.Configuration.{Line, Every, isPolynomial, negated}
+use Rattle.configuration.specs.FormLaws.{polynomial-short}
 use Rattle.configuration.specs.Replacement.{Small}
 use Rattle.configuration.specs.TurnLaws.{empty}
 use Rattle.configuration.specs.declared.Head.{Head}
 use Rattle.calculus.specs.Calculus.{conclusions, changes, allShort}
 use Rattle.calculus.specs.CalculusLaws.{changes-fit}
 use Rattle.calculus.specs.declared.Rule.the-variants.{Prod}
-use Rattle.calculus.proofs.Plans.{negated-fits, negated-is, small-changes, lent, long, short, below-32, plus-one, Folded, folded-none, fold-asked, fold-given, Made, made-unfit, made-none}
+use Rattle.calculus.proofs.Plans.{negated-fits, negated-is, small-changes, exact-of, room, long, short, below-32, plus-one, Folded, folded-none, fold-asked, fold-given, Made, made-unfit, made-none}
 use Rattle.calculus.proofs.plan.plan_prod.Statement.{statement}
 use Rattle.calculus.proofs.plan.plan_prod.Tie as tie
 
@@ -60,7 +62,7 @@ none s =
 
 -- ---- where f g is short enough
 abbrev opened : tie.Else1 → tie.Start
-opened c = c .before .before .before .before .before .before .before .before .before
+opened c = c .before .before .before .before .before .before .before .before
 
 abbrev product : tie.Start → List ℕ
 product s = productOf (left s) (right s)
@@ -68,15 +70,20 @@ product s = productOf (left s) (right s)
 abbrev rest : tie.Start → List ℕ
 rest s = productOf (left s) (sumOf (right s) (0 ∷ []))
 
+-- f g, as it is answered
+told-product : (c : tie.After-product2)
+    → (let s = c .before .before .before .before .before .before .before in let k = c .product2 in (k .result ≡ length (product s)) × (k .result ≤ 64 → take (k .result) (k .last .1 .1 .0) ≡ product s))
+told-product c = let s = c .before .before .before .before .before .before .before in exact-of (s .args .variables) (left s) (right s) _ _ _ _ (s .pre .2) (s .pre .3) (c .product2 .ensures)
+
 product-short : (c : tie.Else1) → leb (length (product (opened c))) 64 ≡ true
-product-short c = let k = c .before .before .product2 in short (k .result) (product (opened c)) (k .ensures .0) (c .if1 .left)
+product-short c = short (c .before .product2 .result) (product (opened c)) (told-product (c .before) .0) (c .if1 .left)
 
 -- f g, as it is lent
 abbrev made : tie.Else1 → List ℕ
-made c = let k = c .before .before .product2 in take (k .result) (k .last .1 .1 .0)
+made c = let k = c .before .product2 in take (k .result) (k .last .1 .1 .0)
 
 product-is : (c : tie.Else1) → made c ≡ product (opened c)
-product-is c = c .before .before .product2 .ensures .1 (c .if1 .left)
+product-is c = told-product (c .before) .1 (c .if1 .left)
 
 rest-is : (c : tie.Else1) → sumOf (made c) (left (opened c)) ≡ rest (opened c)
 rest-is c =
@@ -84,16 +91,26 @@ rest-is c =
     let n = s .args .variables in
     plus-one (left s) (right s) (made c) (below-32 n (left s) (s .pre .0) (s .pre .2)) (below-32 n (right s) (s .pre .0) (s .pre .3)) (product-is c)
 
+-- f g + f, as it is answered
+told-rest : (c : tie.After-sum)
+    → (let o = c .before .before .before in let l = sumOf (made o) (left (opened o)) in let k = c .sum in
+    (k .result ≡ length l) × (k .result ≤ 64 → take (k .result) (k .last .1 .1 .0) ≡ l))
+told-rest c =
+    let o = c .before .before .before in
+    let s = opened o in
+    exact (made o) (left s) (sumOf (made o) (left s)) _ _ _
+    (omega (arith, ap length (product-is o), told-product (o .before) .0, o .if1 .left)) (polynomial-short (s .args .variables) (left s) (s .pre .2)) (c .sum .ensures)
+
 rest-size : (c : tie.After-sum) → c .sum .result ≡ length (rest (opened (c .before .before .before)))
-rest-size c = c .sum .ensures .0 ∙ ap length (rest-is (c .before .before .before))
+rest-size c = told-rest c .0 ∙ ap length (rest-is (c .before .before .before))
 
 -- ---- where both results are
 abbrev begun : tie.Else2 → tie.Start
-begun c = opened (c .before .before .before .before .before)
+begun c = opened (c .before .before .before .before)
 
 fits : (c : tie.Else2) → allShort (conclusions Prod (left (begun c)) (right (begun c)) (begun c .args .amount)) ≡ true
 unfolding allShort
-fits c = rw (product-short (c .before .before .before .before .before), short (c .before .before .sum .result) (rest (begun c)) (rest-size (c .before .before)) (c .if2 .left))
+fits c = rw (product-short (c .before .before .before .before), short (c .before .sum .result) (rest (begun c)) (rest-size (c .before)) (c .if2 .left))
 
 polynomials : (c : tie.Else2) → Every (λ p. T (isPolynomial (begun c .args .variables) p)) (changed (begun c))
 polynomials c =
@@ -129,13 +146,13 @@ unfolding negated
 two c =
     let k = at-two c in
     let s = begun k in
-    fold-given (one (past-one c)) (omega arith) (product-is (k .before .before .before .before .before)) (gained s) (polynomials k .1 .0) (small s .1 .0) (c .fold-in2 .ensures)
+    fold-given (one (past-one c)) (omega arith) (product-is (k .before .before .before .before)) (gained s) (polynomials k .1 .0) (small s .1 .0) (c .fold-in2 .ensures)
 
-abbrev past-two : tie.After-rest3 → tie.After-fold-in2
+abbrev past-two : tie.After-rest2 → tie.After-fold-in2
 past-two c = c .before .before .before .before .before .before .before .before
 
-third : (c : tie.Else2) → (let k = c .before .before .sum in take (k .result) (k .last .1 .1 .0) ≡ rest (begun c))
-third c = c .before .before .sum .ensures .1 (c .if2 .left) ∙ rest-is (c .before .before .before .before .before)
+third : (c : tie.Else2) → (let k = c .before .sum in take (k .result) (k .last .1 .1 .0) ≡ rest (begun c))
+third c = told-rest (c .before) .1 (c .if2 .left) ∙ rest-is (c .before .before .before .before)
 
 abbrev at-three : tie.After-fold-in3 → tie.Else2
 at-three c = at-two (past-two (c .before .before .before .before .before))
@@ -152,11 +169,8 @@ three c =
 abbrev last : tie.After-slice-known12 → tie.After-fold-in3
 last c = c .before .before .before .before .before .before .before
 
-slice-aggregate-product : tie.Need-slice-aggregate-product
-slice-aggregate-product c = search needs
-
 product-requires : tie.Need-product-requires
-product-requires c κs = let s = c .before .before .before .before .before .before in lent (s .args .variables) (left s) (right s) (s .pre .2) (s .pre .3)
+product-requires c κs = search needs
 
 unfit-requires : tie.Need-unfit-requires
 unfit-requires c κs = search needs
@@ -164,27 +178,19 @@ unfit-requires c κs = search needs
 returns : tie.Need-returns
 unfolding allShort
 returns c =
-    let s = c .before .before .before .before .before .before .before .before .before .before in
-    let k = c .before .before .before .product2 in
-    let e = long (k .result) (product s) (k .ensures .0) (c .before .if1 .taken) in
+    let s = c .before .before .before .before .before .before .before .before .before in
+    let k = c .before .before in
+    let e = long (k .product2 .result) (product s) (told-product k .0) (c .before .if1 .taken) in
     made-unfit Prod (left s) (right s) (s .args .amount) (c .unfit .result) (none s) (c .unfit .ensures) (rw e)
 
 array-share-prefix-product : tie.Need-array-share-prefix-product
-array-share-prefix-product c = omega (arith, c .before .before .product2 .kept .1 .1 .0)
+array-share-prefix-product c = room _ _ _ (told-product (c .before)) (c .if1 .left)
 
 slice-aggregate-p : tie.Need-slice-aggregate-p
 slice-aggregate-p c = sym (length-take-le _ _ (array-share-prefix-product (c .before)))
 
-slice-aggregate-sum : tie.Need-slice-aggregate-sum
-slice-aggregate-sum c = search needs
-
 sum-requires : tie.Need-sum-requires
-sum-requires c κs =
-    let k = c .before .before in
-    let m = k .before .before .product2 in
-    let s = opened k in
-    let short-left = lent (s .args .variables) (left s) (right s) (s .pre .2) (s .pre .3) .0 in
-    (omega (arith, length-take-le (m .result) (m .last .1 .1 .0) (array-share-prefix-product k), k .if1 .left), short-left, refl)
+sum-requires c κs = search needs
 
 unfit-requires-2 : tie.Need-unfit-requires-2
 unfit-requires-2 c κs = search needs
@@ -192,8 +198,8 @@ unfit-requires-2 c κs = search needs
 returns-2 : tie.Need-returns-2
 unfolding allShort
 returns-2 c =
-    let k = c .before .before .before in
-    let o = c .before .before .before .before .before .before in
+    let k = c .before .before in
+    let o = c .before .before .before .before .before in
     let s = opened o in
     let d = long (k .sum .result) (rest s) (rest-size k) (c .before .if2 .taken) in
     made-unfit Prod (left s) (right s) (s .args .amount) (c .unfit2 .result) (none s) (c .unfit2 .ensures) (rw (product-short o, d))
@@ -201,12 +207,12 @@ returns-2 c =
 returns-3 : tie.Need-returns-3
 returns-3 c =
     let k = c .before in
-    nothing k (inl (sym (k .before .before .before .before .before .before .before .product2 .ensures .0) ∙ c .if3 .taken))
+    nothing k (inl (sym (told-product (k .before .before .before .before .before) .0) ∙ c .if3 .taken))
 
 returns-4 : tie.Need-returns-4
 returns-4 c =
     let k = c .before .before in
-    nothing k (inr (sym (rest-size (k .before .before)) ∙ c .if4 .taken))
+    nothing k (inr (sym (rest-size (k .before)) ∙ c .if4 .taken))
 
 sub-fold-in : tie.Need-sub-fold-in
 sub-fold-in c = let s = begun (c .before .before .before .before .before .before) in rw (gained s) (negated-fits (s .args .amount) (s .pre .1))
@@ -223,10 +229,10 @@ fold-in-requires-2 c κs =
     let o = c .before .before .before .before .before .before .before .before .before .before .before in
     let k = at-one o in
     let s = begun k in
-    fold-asked (one o) (omega arith) (product-is (k .before .before .before .before .before)) (gained s) (polynomials k .1 .0) (small s .1 .0)
+    fold-asked (one o) (omega arith) (product-is (k .before .before .before .before)) (gained s) (polynomials k .1 .0) (small s .1 .0)
 
 array-share-prefix-rest : tie.Need-array-share-prefix-rest
-array-share-prefix-rest c = let k = at-two (c .before .before .before .before .before .before .before) in omega (arith, k .if2 .left, k .before .before .sum .kept .1 .1 .0)
+array-share-prefix-rest c = let k = at-two (c .before .before .before .before .before .before .before) in room _ _ _ (told-rest (k .before)) (k .if2 .left)
 
 slice-aggregate-q : tie.Need-slice-aggregate-q
 slice-aggregate-q c = sym (length-take-le _ _ (array-share-prefix-rest (c .before)))
@@ -259,13 +265,11 @@ pub plan-prod-spec : {M : Type 1} → statement M
 plan-prod-spec =
     tie.close
     (tie.spec
-    slice-aggregate-product
     product-requires
     unfit-requires
     returns
     array-share-prefix-product
     slice-aggregate-p
-    slice-aggregate-sum
     sum-requires
     unfit-requires-2
     returns-2

@@ -2,11 +2,11 @@
 use mathlib.Core.Path.{_≡_, refl, sym, _∙_}
 use mathlib.Core.Bool.{true}
 use mathlib.Core.List.{List}
-use Prim.Native.Nat.{ℕ}
+use Prim.Native.Nat.{ℕ, _≤_}
 use native.Mathlib.Omega.{arith}
 use lib.Dec.{T}
 use lib.IntN.{ℤ, pos, _+ℤ_, _-ℤ_, negℤ}
-use lib.ListN.{take}
+use lib.ListN.{length, take}
 use lib.Seq.{length-take-le}
 use denote.Ref.{now}
 use mir.Syntax.{w64}
@@ -22,7 +22,7 @@ use Rattle.configuration.specs.declared.Head.{Head}
 use Rattle.calculus.specs.Calculus.{conclusions, changes, allShort}
 use Rattle.calculus.specs.CalculusLaws.{changes-fit}
 use Rattle.calculus.specs.declared.Rule.the-variants.{Sum}
-use Rattle.calculus.proofs.Plans.{negated-fits, negated-is, doubled-fits, doubled-is, small-changes, lent, long, short, Folded, folded-none, fold-asked, fold-given, made-unfit}
+use Rattle.calculus.proofs.Plans.{negated-fits, negated-is, doubled-fits, doubled-is, small-changes, exact-of, room, long, short, Folded, folded-none, fold-asked, fold-given, made-unfit}
 use Rattle.calculus.proofs.plan.plan_sum.Statement.{statement}
 use Rattle.calculus.proofs.plan.plan_sum.Tie as tie
 
@@ -60,25 +60,32 @@ none s =
     let p = s .pre in
     folded-none (a .variables) (now (a .index)) (now (a .terms)) (now (a .weights)) (now (a .counts)) (p .0) (p .4) (p .5) (p .6) (p .7)
 
+-- ---- f + g and f g, exact
+told-sum : (c : tie.After-sum2)
+    → (let s = c .before .before .before .before .before .before .before in let k = c .sum2 in (k .result ≡ length (sumOf (left s) (right s))) × (k .result ≤ 64 → take (k .result) (k .last .1 .1 .0) ≡ sumOf (left s) (right s)))
+told-sum c = let s = c .before .before .before .before .before .before .before in exact-of (s .args .variables) (left s) (right s) _ _ _ _ (s .pre .2) (s .pre .3) (c .sum2 .ensures)
+
+told-product : (c : tie.After-product2)
+    → (let s = c .before .before .before .before .before .before .before .before .before .before in let k = c .product2 in (k .result ≡ length (productOf (left s) (right s))) × (k .result ≤ 64 → take (k .result) (k .last .1 .1 .0) ≡ productOf (left s) (right s)))
+told-product c = let s = c .before .before .before .before .before .before .before .before .before .before in exact-of (s .args .variables) (left s) (right s) _ _ _ _ (s .pre .2) (s .pre .3) (c .product2 .ensures)
+
 -- ---- where both results are short enough
 abbrev begun : tie.Else2 → tie.Start
-begun c = c .before .before .before .before .before .before .before .before .before .before .before .before .before
+begun c = c .before .before .before .before .before .before .before .before .before .before .before
 
 fits : (c : tie.Else2) → allShort (conclusions Sum (left (begun c)) (right (begun c)) (begun c .args .amount)) ≡ true
 unfolding allShort
 fits c =
     let s = begun c in
-    let k = c .before .before .before .before .before .before .sum2 in
-    let m = c .before .before .product2 in
-    let e = short (k .result) (sumOf (left s) (right s)) (k .ensures .0) (c .before .before .before .before .if1 .left) in
-    let d = short (m .result) (productOf (left s) (right s)) (m .ensures .0) (c .if2 .left) in
+    let e = short (c .before .before .before .before .sum2 .result) (sumOf (left s) (right s)) (told-sum (c .before .before .before .before) .0) (c .before .before .before .if1 .left) in
+    let d = short (c .before .product2 .result) (productOf (left s) (right s)) (told-product (c .before) .0) (c .if2 .left) in
     rw (e, d)
 
-sum-is : (c : tie.Else2) → (let k = c .before .before .before .before .before .before .sum2 in take (k .result) (k .last .1 .1 .0) ≡ sumOf (left (begun c)) (right (begun c)))
-sum-is c = c .before .before .before .before .before .before .sum2 .ensures .1 (c .before .before .before .before .if1 .left)
+sum-is : (c : tie.Else2) → (let k = c .before .before .before .before .sum2 in take (k .result) (k .last .1 .1 .0) ≡ sumOf (left (begun c)) (right (begun c)))
+sum-is c = told-sum (c .before .before .before .before) .1 (c .before .before .before .if1 .left)
 
-product-is : (c : tie.Else2) → (let k = c .before .before .product2 in take (k .result) (k .last .1 .1 .0) ≡ productOf (left (begun c)) (right (begun c)))
-product-is c = c .before .before .product2 .ensures .1 (c .if2 .left)
+product-is : (c : tie.Else2) → (let k = c .before .product2 in take (k .result) (k .last .1 .1 .0) ≡ productOf (left (begun c)) (right (begun c)))
+product-is c = told-product (c .before) .1 (c .if2 .left)
 
 polynomials : (c : tie.Else2) → Every (λ p. T (isPolynomial (begun c .args .variables) p)) (changed (begun c))
 polynomials c =
@@ -110,7 +117,7 @@ two c =
     fold-given (one (past-one c)) (omega arith) refl (lost s) (s .pre .3) (small s .1 .0) (c .fold-in2 .ensures)
 
 -- the third is of the sum, and the fourth of the product
-abbrev past-two : tie.After-sum4 → tie.After-fold-in2
+abbrev past-two : tie.After-sum3 → tie.After-fold-in2
 past-two c = c .before .before .before .before .before .before .before .before
 
 abbrev at-three : tie.After-fold-in3 → tie.Else2
@@ -125,7 +132,7 @@ three c =
     let s = begun k in
     fold-given (two (past-two h)) (omega arith) (sum-is k) (gained s) (polynomials k .1 .1 .0) (small s .1 .1 .0) (c .fold-in3 .ensures)
 
-abbrev past-three : tie.After-product4 → tie.After-fold-in3
+abbrev past-three : tie.After-product3 → tie.After-fold-in3
 past-three c = c .before .before .before .before .before .before .before .before
 
 abbrev at-four : tie.After-fold-in4 → tie.Else2
@@ -143,11 +150,8 @@ four c =
 abbrev last : tie.After-slice-known15 → tie.After-fold-in4
 last c = c .before .before .before .before .before .before .before
 
-slice-aggregate-sum : tie.Need-slice-aggregate-sum
-slice-aggregate-sum c = search needs
-
 sum-requires : tie.Need-sum-requires
-sum-requires c κs = let s = c .before .before .before .before .before .before in lent (s .args .variables) (left s) (right s) (s .pre .2) (s .pre .3)
+sum-requires c κs = search needs
 
 unfit-requires : tie.Need-unfit-requires
 unfit-requires c κs = search needs
@@ -155,16 +159,13 @@ unfit-requires c κs = search needs
 returns : tie.Need-returns
 unfolding allShort
 returns c =
-    let s = c .before .before .before .before .before .before .before .before .before .before in
-    let k = c .before .before .before .sum2 in
-    let e = long (k .result) (sumOf (left s) (right s)) (k .ensures .0) (c .before .if1 .taken) in
+    let s = c .before .before .before .before .before .before .before .before .before in
+    let k = c .before .before in
+    let e = long (k .sum2 .result) (sumOf (left s) (right s)) (told-sum k .0) (c .before .if1 .taken) in
     made-unfit Sum (left s) (right s) (s .args .amount) (c .unfit .result) (none s) (c .unfit .ensures) (rw e)
 
-slice-aggregate-product : tie.Need-slice-aggregate-product
-slice-aggregate-product c = search needs
-
 product-requires : tie.Need-product-requires
-product-requires c κs = let s = c .before .before .before .before .before .before .before .before .before .before in lent (s .args .variables) (left s) (right s) (s .pre .2) (s .pre .3)
+product-requires c κs = search needs
 
 unfit-requires-2 : tie.Need-unfit-requires-2
 unfit-requires-2 c κs = search needs
@@ -172,11 +173,11 @@ unfit-requires-2 c κs = search needs
 returns-2 : tie.Need-returns-2
 unfolding allShort
 returns-2 c =
-    let s = c .before .before .before .before .before .before .before .before .before .before .before .before .before .before in
-    let k = c .before .before .before .before .before .before .before .sum2 in
-    let m = c .before .before .before .product2 in
-    let e = short (k .result) (sumOf (left s) (right s)) (k .ensures .0) (c .before .before .before .before .before .if1 .left) in
-    let d = long (m .result) (productOf (left s) (right s)) (m .ensures .0) (c .before .if2 .taken) in
+    let s = c .before .before .before .before .before .before .before .before .before .before .before .before in
+    let k = c .before .before .before .before .before in
+    let m = c .before .before in
+    let e = short (k .sum2 .result) (sumOf (left s) (right s)) (told-sum k .0) (c .before .before .before .before .if1 .left) in
+    let d = long (m .product2 .result) (productOf (left s) (right s)) (told-product m .0) (c .before .if2 .taken) in
     made-unfit Sum (left s) (right s) (s .args .amount) (c .unfit2 .result) (none s) (c .unfit2 .ensures) (rw (e, d))
 
 sub-fold-in : tie.Need-sub-fold-in
@@ -199,7 +200,7 @@ fold-in-requires-2 c κs =
     fold-asked (one o) (omega arith) refl (lost s) (s .pre .3) (small s .1 .0)
 
 array-share-prefix-sum : tie.Need-array-share-prefix-sum
-array-share-prefix-sum c = let k = at-two (c .before .before .before .before .before .before .before) in omega (arith, k .before .before .before .before .if1 .left, k .before .before .before .before .before .before .sum2 .kept .1 .1 .0)
+array-share-prefix-sum c = let k = at-two (c .before .before .before .before .before .before .before) in room _ _ _ (told-sum (k .before .before .before .before)) (k .before .before .before .if1 .left)
 
 slice-aggregate-s : tie.Need-slice-aggregate-s
 slice-aggregate-s c = sym (length-take-le _ _ (array-share-prefix-sum (c .before)))
@@ -213,7 +214,7 @@ fold-in-requires-3 c κs =
     fold-asked (two (past-two h)) (omega arith) (sum-is k) (gained s) (polynomials k .1 .1 .0) (small s .1 .1 .0)
 
 array-share-prefix-product : tie.Need-array-share-prefix-product
-array-share-prefix-product c = let k = at-three (c .before .before .before .before .before .before .before) in omega (arith, k .if2 .left, k .before .before .product2 .kept .1 .1 .0)
+array-share-prefix-product c = let k = at-three (c .before .before .before .before .before .before .before) in room _ _ _ (told-product (k .before)) (k .if2 .left)
 
 slice-aggregate-p : tie.Need-slice-aggregate-p
 slice-aggregate-p c = sym (length-take-le _ _ (array-share-prefix-product (c .before)))
@@ -249,11 +250,9 @@ pub plan-sum-spec : {M : Type 1} → statement M
 plan-sum-spec =
     tie.close
     (tie.spec
-    slice-aggregate-sum
     sum-requires
     unfit-requires
     returns
-    slice-aggregate-product
     product-requires
     unfit-requires-2
     returns-2

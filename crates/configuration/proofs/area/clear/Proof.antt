@@ -6,7 +6,7 @@ use native.Mathlib.Omega.{arith}
 use lib.ListN.{length, getD, replicate, length-set, length-replicate, getD-replicate}
 use lib.Seq.{paste}
 use borrow.Author.Needs.{needs}
-use Rattle.configuration.proofs.Areas.{none-pasted, more-pasted, all-pasted}
+use Rattle.run.proofs.Pasted.{none-pasted, more-pasted, all-pasted}
 use Rattle.configuration.proofs.area.clear.Statement.{statement}
 use Rattle.configuration.proofs.area.clear.Tie as tie
 

@@ -7,7 +7,7 @@ use lib.IntN.{ℤ, pos}
 use lib.ListN.{length, getD, replicate, length-set, length-replicate, getD-replicate, drop-of-length-le}
 use lib.Seq.{paste}
 use borrow.Author.Needs.{needs}
-use Rattle.configuration.proofs.Areas.{none-pasted, more-pasted, all-pasted}
+use Rattle.run.proofs.Pasted.{none-pasted, more-pasted, all-pasted}
 use Rattle.configuration.proofs.blank.clear_weights.Statement.{statement}
 use Rattle.configuration.proofs.blank.clear_weights.Tie as tie
 

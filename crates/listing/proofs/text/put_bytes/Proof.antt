@@ -5,7 +5,7 @@ use native.Mathlib.Omega.{arith}
 use lib.ListN.{length, getD, length-set}
 use lib.Seq.{paste}
 use borrow.Author.Needs.{needs}
-use Rattle.configuration.proofs.Areas.{none-pasted, more-pasted, all-pasted}
+use Rattle.run.proofs.Pasted.{none-pasted, more-pasted, all-pasted}
 use Rattle.listing.proofs.text.put_bytes.Statement.{statement}
 use Rattle.listing.proofs.text.put_bytes.Tie as tie
 

@@ -8,6 +8,7 @@ use lib.Seq.{length-take-le}
 use borrow.Author.Needs.{needs}
 use Rattle.polynomial.specs.ClauseLaws.{length-joined}
 use Rattle.polynomial.specs.Polynomial.{normal}
+use Rattle.polynomial.specs.PolynomialLaws.{placed-long}
 use Rattle.polynomial.proofs.Keys.{below-each, run-masks, written-terms}
 use Rattle.polynomial.proofs.few.arranged.Statement.{statement}
 use Rattle.polynomial.proofs.few.arranged.Tie as tie
@@ -15,7 +16,8 @@ use Rattle.polynomial.proofs.few.arranged.Tie as tie
 returns : tie.Need-returns
 returns c =
     let s = c .before .before .before in
-    (sym (length-joined (s .args .fixed) (s .args .masks .now) (s .pre .1) (s .pre .0)), λ h. absurd (omega arith))
+    let e = length-joined (s .args .fixed) (s .args .masks .now) (s .pre .1) (s .pre .0) in
+    (sym e, sym (placed-long (normal (map (bitOr (s .args .fixed)) (s .args .masks .now))) (s .args .out .now) (omega (arith, e))))
 
 slice-aggregate-ordered-keys : tie.Need-slice-aggregate-ordered-keys
 slice-aggregate-ordered-keys c = search needs
@@ -46,7 +48,7 @@ returns-2 c =
     let k = c .before .before .before .before .before .before .before .ordered-keys in
     let w = c .before .before .write-masks in
     written-terms (normal (map (bitOr (s .args .fixed)) masks)) (take (k .result) (k .last .1 .1 .0)) (s .args .out .now) (w .last .1 .0) (w .result)
-    (run-masks (s .args .fixed) masks _ (s .fits .fixed .fits) below (k .ensures .1)) (w .ensures) (s .pre .2)
+    (run-masks (s .args .fixed) masks _ (s .fits .fixed .fits) below (k .ensures .1)) (w .ensures)
 
 pub arranged-spec : {M : Type 1} → statement M
 arranged-spec =

@@ -11,7 +11,7 @@ use Rattle.run.specs.Run.{Sorted}
 use Rattle.polynomial.specs.ClauseLaws.{Apart, length-subsets-le, ascending, subsets-ascend, subsets-apart}
 use Rattle.polynomial.specs.Few.{productIndices, toggled, chosen}
 use Rattle.polynomial.specs.FewLaws.{varying-apart, chosen-all, chosen-sorted, table-product}
-use Rattle.polynomial.specs.Polynomial.{normal, subsetsOf}
+use Rattle.polynomial.specs.Polynomial.{normal, subsetsOf, placed}
 use Rattle.polynomial.proofs.FewSteps.{longer, table-small, chosen-front}
 use Rattle.polynomial.proofs.few.product_by.Statement.{statement}
 use Rattle.polynomial.proofs.few.product_by.Tie as tie
@@ -92,7 +92,7 @@ returns c =
     ∙ ap (chosen (subsetsOf 32 m)) (made (c .before .before .before .before .before .before .before .before .before .before .before .before .before .before .before .before)))
     ∙ table-product (s .args .fixed) m (length (s .args .table .now)) (s .args .f .now) (s .args .g .now) (s .pre .2) (s .pre .3) (s .fits .mask .fits)
     (omega (arith, length-subsets-le 32 m, s .pre .6)) in
-    (a .ensures .0 ∙ ap length e, λ k. a .ensures .1 k ∙ e)
+    (a .ensures .0 ∙ ap length e, a .ensures .1 ∙ ap (λ (l : List ℕ). placed l (s .args .out .now)) e)
 
 pub product-by-spec : {M : Type 1} → statement M
 product-by-spec =

@@ -6,14 +6,11 @@ use borrow.Author.Needs.{needs}
 use Rattle.polynomial.proofs.few.varying.Statement.{statement}
 use Rattle.polynomial.proofs.few.varying.Tie as tie
 
-common-requires : tie.Need-common-requires
-common-requires c κs = search needs
-
 variables-requires : tie.Need-variables-requires
 variables-requires c κs = search needs
 
 returns : tie.Need-returns
-returns c = ap₂ (λ (v k : ℕ). bitXor (bitOr v k) k) (c .variables .ensures) (c .before .common .ensures)
+returns c = ap₂ (λ (v k : ℕ). bitXor (bitOr v k) k) (c .variables .ensures) (c .before .before .before .pre)
 
 pub varying-spec : {M : Type 1} → statement M
-varying-spec = tie.close (tie.spec common-requires variables-requires returns)
+varying-spec = tie.close (tie.spec variables-requires returns)

@@ -11,8 +11,8 @@ use Rattle.run.specs.Run.{normalBy}
 use Rattle.polynomial.specs.Polynomial.{unions, sumOf, productOf, Ordered}
 use Rattle.polynomial.specs.PolynomialLaws.{product-ordered}
 use Rattle.polynomial.proofs.Keys.{room, next-row, product-more, front-size}
-use Rattle.polynomial.proofs.short_product.Statement.{statement}
-use Rattle.polynomial.proofs.short_product.Tie as tie
+use Rattle.polynomial.proofs.product.short_product.Statement.{statement}
+use Rattle.polynomial.proofs.product.short_product.Tie as tie
 
 abbrev Inv-loop : tie.InvT-loop
 Inv-loop f g out₀ count₀ i₀ out count i =

@@ -8,8 +8,8 @@ use lib.Seq.{length-take-le}
 use borrow.Author.Needs.{needs}
 use Rattle.polynomial.specs.Polynomial.{productOf}
 use Rattle.polynomial.proofs.Keys.{below-each, front-long, still-fits, left-front, product-masks, written-terms}
-use Rattle.polynomial.proofs.product_in.Statement.{statement}
-use Rattle.polynomial.proofs.product_in.Tie as tie
+use Rattle.polynomial.proofs.product.product_in.Statement.{statement}
+use Rattle.polynomial.proofs.product.product_in.Tie as tie
 
 -- how many products there are
 abbrev size : tie.Start → ℕ
@@ -86,7 +86,7 @@ returns c =
     written-terms (productOf f g) (take (d .result) (d .last .0 ++ drop (size s) (K ++ drop (size s) area))) (s .args .out .now) (w .last .1 .0) (w .result)
     (product-masks f g K _ below-f below-g (k .ensures)
     (left-front area K (size s) (s .pre .0) (k .kept .1 .1 .0) (d .last .0) (d .kept .0) (d .result) (d .ensures .0) (d .ensures .1)))
-    (w .ensures) (s .pre .2)
+    (w .ensures)
 
 pub product-in-spec : {M : Type 1} → statement M
 product-in-spec =

@@ -10,8 +10,8 @@ use Rattle.term.specs.Term.{degreeOf}
 use Rattle.polynomial.specs.ClauseLaws.{length-subsets-le}
 use Rattle.polynomial.specs.Polynomial.{clauseOf}
 use Rattle.polynomial.proofs.Keys.{clause-masks, outcome-short}
-use Rattle.polynomial.proofs.short_clause.Statement.{statement}
-use Rattle.polynomial.proofs.short_clause.Tie as tie
+use Rattle.polynomial.proofs.clause.short_clause.Statement.{statement}
+use Rattle.polynomial.proofs.clause.short_clause.Tie as tie
 
 slice-aggregate-subsets : tie.Need-slice-aggregate-subsets
 slice-aggregate-subsets c = search needs

@@ -5,9 +5,9 @@ use native.Mathlib.Omega.{arith}
 use lib.ListN.{length, getD, length-set}
 use lib.Seq.{paste}
 use borrow.Author.Needs.{needs}
-use Rattle.configuration.proofs.Areas.{none-pasted, more-pasted, all-pasted}
-use Rattle.configuration.proofs.area.write.Statement.{statement}
-use Rattle.configuration.proofs.area.write.Tie as tie
+use Rattle.run.proofs.Pasted.{none-pasted, more-pasted, all-pasted}
+use Rattle.polynomial.proofs.area.write.Statement.{statement}
+use Rattle.polynomial.proofs.area.write.Tie as tie
 
 abbrev Inv-loop : tie.InvT-loop
 Inv-loop area₀ at run i₀ area i = (i ≤ length run) × (length area ≡ length area₀) × (area ≡ paste area₀ at run i)
