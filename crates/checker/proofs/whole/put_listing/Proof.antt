@@ -1,4 +1,5 @@
 -- `put_listing` meets its contract: it is the listing of the two runs.
+use native.Mathlib.Omega.{arith}
 use borrow.Author.Needs.{needs}
 use Rattle.checker.proofs.whole.put_listing.Statement.{statement}
 use Rattle.checker.proofs.whole.put_listing.Tie as tie
@@ -15,7 +16,7 @@ slice-aggregate-put-listing-2 c = search needs
 put-listing-requires : tie.Need-put-listing-requires
 put-listing-requires c κs =
     let p = c .before .before .before .before .before .before .before .before .pre in
-    (rw (c .before .before .before .before .before .runs-of .ensures) (p .0), p .1)
+    (rw (c .before .before .before .before .before .runs-of .ensures) (p .0), omega (arith, p .1))
 
 same-length : tie.Need-same-length
 same-length c = search needs
