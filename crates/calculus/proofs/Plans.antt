@@ -33,6 +33,7 @@ use Rattle.configuration.specs.declared.Head.{Head}
 use Rattle.configuration.proofs.Replacements.{all-snoc, small-snoc, add-short, all-short}
 use Rattle.calculus.specs.Calculus.{conclusions, changes, amountFits, allShort}
 use Rattle.calculus.specs.CalculusLaws.{none-changed, changes-fit}
+use Rattle.calculus.specs.Planning.{Made}
 use Rattle.calculus.specs.declared.plan.Plan.{Plan}
 use Rattle.calculus.specs.declared.Rule.{Rule}
 use Rattle.calculus.specs.declared.Rule.the-variants.{Sum, Prod}
@@ -191,18 +192,15 @@ module _ {n : ℕ} {C : List Line} {h : Head} {is ts : List ℕ} {ws : List ℤ}
       small = small-snoc 42 C f w (k .small) q;
     }
 
--- ---- what a plan promises
-abbrev pub Made : Rule → ℕ → List ℕ → List ℕ → ℤ → Plan → List ℕ → List ℕ → List ℤ → List ℕ → Type 0
-Made r n f g w p is ts ws cs =
-    (p .fits ≡ allShort (conclusions r f g w))
-    × ((p .fits ≡ true → indexedOf (p .head) is ts ws cs ≡ imageOf 4 n (addAll (changes r f g w) [])) × Kept 4 (p .head) is ts ws cs)
+-- ---- what a plan promises: all changes are in the table
+pub made-all : (r : Rule) {n : ℕ} (f g : List ℕ) (w : ℤ) {h : Head} {is ts : List ℕ} {ws : List ℤ} {cs : List ℕ} → Folded n (changes r f g w) h is ts ws cs
+    → allShort (conclusions r f g w) ≡ true → Made r n f g w (record { fits = true; head = h }) is ts ws cs
+made-all r f g w k d = (sym d, k .memory ∙ rw d, k .kept)
 
 -- a plan that does not fit leaves an empty table
 pub made-unfit : (r : Rule) {n : ℕ} (f g : List ℕ) (w : ℤ) {is ts : List ℕ} {ws : List ℤ} {cs : List ℕ} (p : Plan) → Folded n [] (empty n) is ts ws cs
     → p ≡ record { fits = false; head = empty n } → allShort (conclusions r f g w) ≡ false → Made r n f g w p is ts ws cs
-made-unfit r f g w {is = is} {ts = ts} {ws = ws} {cs = cs} p k e d =
-    let u : p .fits ≡ false = ap (λ (x : Plan). x .fits) e in
-    (u ∙ sym d, (λ z. absurd (true≢false (sym z ∙ u)), subst (λ (h : Head). Kept 4 h is ts ws cs) (sym (ap (λ (x : Plan). x .head) e)) (k .kept)))
+made-unfit r f g w {is = is} {ts = ts} {ws = ws} {cs = cs} p k e d = rw e (sym d, k .memory ∙ rw d, k .kept)
 
 -- and so does one of PROD where f g or f (g + 1) has no term
 no-terms : (l : List ℕ) → length l ≡ 0 → l ≡ []
@@ -213,7 +211,7 @@ pub made-none : {n : ℕ} (f g : List ℕ) (w : ℤ) {is ts : List ℕ} {ws : Li
     → T (isPolynomial n f) → T (isPolynomial n g) → allShort (conclusions Prod f g w) ≡ true
     → (length (productOf f g) ≡ 0) ⊎ (length (productOf f (sumOf g (0 ∷ []))) ≡ 0) → Made Prod n f g w (record { fits = true; head = empty n }) is ts ws cs
 unfolding addAll
-made-none {n = n} f g w k hf hg d h = (sym d, (λ z. k .memory ∙ ap (imageOf 4 n) (sym (none-changed n f g w hf hg (go h))), k .kept))
+made-none {n = n} f g w k hf hg d h = (sym d, k .memory ∙ rw d (ap (imageOf 4 n) (sym (none-changed n f g w hf hg (go h)))), k .kept)
   where
     go : (length (productOf f g) ≡ 0) ⊎ (length (productOf f (sumOf g (0 ∷ []))) ≡ 0) → (productOf f g ≡ []) ⊎ (productOf f (sumOf g (0 ∷ [])) ≡ [])
     go (inl e) = inl (no-terms (productOf f g) e)
@@ -227,7 +225,7 @@ made-few Prod f g w = omega arith
 module _ (r : Rule) {n : ℕ} (f g : List ℕ) (w : ℤ) {p : Plan} {is ts : List ℕ} {ws : List ℤ} {cs : List ℕ} (m : Made r n f g w p is ts ws cs) (e : p .fits ≡ true)
     (hf : T (isPolynomial n f)) (hg : T (isPolynomial n g)) (hw : T (inRange w)) where
   pub made-folded : Folded n (changes r f g w) (p .head) is ts ws cs
-  made-folded = record { memory = m .1 .0 e; kept = m .1 .1; fit = changes-fit r f g w n hf hg (of-true (sym (m .0) ∙ e)); small = small-changes r f g w hw }
+  made-folded = record { memory = m .1 ∙ rw (sym (m .0) ∙ e); kept = m .2; fit = changes-fit r f g w n hf hg (of-true (sym (m .0) ∙ e)); small = small-changes r f g w hw }
 
   -- what a replacement by the table asks for
   pub made-asked : Kept 4 (p .head) is ts ws cs × T (formed 4 (indexedOf (p .head) is ts ws cs)) × (p .head .variables ≡ n) × Small 45 (linesBy (p .head) is ts ws cs)

@@ -1,2 +1,3 @@
 pub mod Calculus
 pub mod CalculusLaws
+pub mod Planning

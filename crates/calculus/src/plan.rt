@@ -5,17 +5,8 @@ use configuration::Head;
 use configuration::table::fold_in;
 use polynomial::Polynomial;
 ghost use mathlib.Core.Path.{_≡_};
-ghost use mathlib.Core.Bool.{true, false};
-ghost use mathlib.Core.List.{[], _∷_};
-ghost use Prim.Native.Nat.{_≤_};
-ghost use lib.Dec.{T};
-ghost use lib.IntN.{pos};
-ghost use lib.ListN.{replicate};
-ghost use Rattle.configuration.specs.Weight.{inRange};
-ghost use Rattle.configuration.specs.Configuration.{addAll, isPolynomial};
-ghost use Rattle.configuration.specs.Memory.{imageOf};
-ghost use Rattle.configuration.specs.Index.{indexedOf, Kept};
-ghost use Rattle.calculus.specs.Calculus.{conclusions, changes, allShort};
+ghost use mathlib.Core.Bool.{false};
+ghost use Rattle.calculus.specs.Planning.{Lent, Made};
 ghost use Rattle.calculus.specs.declared.Rule.the-variants.{Sum, Prod};
 
 // The head of the table that has the changes of a rule; where one of its results has more than 64 terms, that they do not fit.
@@ -48,11 +39,8 @@ fn plan_sum(
     weights: &mut [i64],
     counts: &mut [u32],
 ) -> Plan
-    requires { ⌜ (variables ≤ 32) × T (inRange amount) × T (isPolynomial variables (now f)) × T (isPolynomial variables (now g))
-        × (now index ≡ 0 ∷ 1 ∷ 2 ∷ 3 ∷ []) × (now terms ≡ replicate 256 0) × (now weights ≡ replicate 4 (pos 0)) × (now counts ≡ replicate 4 0) ⌝ }
-    ensures short { λ r. ⌜ r .fits ≡ allShort (conclusions Sum (now (f .entry)) (now (g .entry)) amount) ⌝ }
-    ensures made { λ r. ⌜ (r .fits ≡ true → indexedOf (r .head) (now (index .exit)) (now (terms .exit)) (now (weights .exit)) (now (counts .exit)) ≡ imageOf 4 variables (addAll (changes Sum (now (f .entry)) (now (g .entry)) amount) [])) ⌝ }
-    ensures kept { λ r. ⌜ Kept 4 (r .head) (now (index .exit)) (now (terms .exit)) (now (weights .exit)) (now (counts .exit)) ⌝ }
+    requires { ⌜ Lent variables (now f) (now g) amount (now index) (now terms) (now weights) (now counts) ⌝ }
+    ensures { λ r. ⌜ Made Sum variables (now (f .entry)) (now (g .entry)) amount r (now (index .exit)) (now (terms .exit)) (now (weights .exit)) (now (counts .exit)) ⌝ }
 {
     let mut sum = [0u32; 64];
     let m = Polynomial::sum(f, g, &mut sum);
@@ -89,11 +77,8 @@ fn plan_prod(
     weights: &mut [i64],
     counts: &mut [u32],
 ) -> Plan
-    requires { ⌜ (variables ≤ 32) × T (inRange amount) × T (isPolynomial variables (now f)) × T (isPolynomial variables (now g))
-        × (now index ≡ 0 ∷ 1 ∷ 2 ∷ 3 ∷ []) × (now terms ≡ replicate 256 0) × (now weights ≡ replicate 4 (pos 0)) × (now counts ≡ replicate 4 0) ⌝ }
-    ensures short { λ r. ⌜ r .fits ≡ allShort (conclusions Prod (now (f .entry)) (now (g .entry)) amount) ⌝ }
-    ensures made { λ r. ⌜ (r .fits ≡ true → indexedOf (r .head) (now (index .exit)) (now (terms .exit)) (now (weights .exit)) (now (counts .exit)) ≡ imageOf 4 variables (addAll (changes Prod (now (f .entry)) (now (g .entry)) amount) [])) ⌝ }
-    ensures kept { λ r. ⌜ Kept 4 (r .head) (now (index .exit)) (now (terms .exit)) (now (weights .exit)) (now (counts .exit)) ⌝ }
+    requires { ⌜ Lent variables (now f) (now g) amount (now index) (now terms) (now weights) (now counts) ⌝ }
+    ensures { λ r. ⌜ Made Prod variables (now (f .entry)) (now (g .entry)) amount r (now (index .exit)) (now (terms .exit)) (now (weights .exit)) (now (counts .exit)) ⌝ }
 {
     let mut product = [0u32; 64];
     let n = Polynomial::product(f, g, &mut product);
@@ -142,11 +127,8 @@ pub fn plan_of(
     weights: &mut [i64],
     counts: &mut [u32],
 ) -> Plan
-    requires { ⌜ (variables ≤ 32) × T (inRange amount) × T (isPolynomial variables (now f)) × T (isPolynomial variables (now g))
-        × (now index ≡ 0 ∷ 1 ∷ 2 ∷ 3 ∷ []) × (now terms ≡ replicate 256 0) × (now weights ≡ replicate 4 (pos 0)) × (now counts ≡ replicate 4 0) ⌝ }
-    ensures short { λ r. ⌜ r .fits ≡ allShort (conclusions rule (now (f .entry)) (now (g .entry)) amount) ⌝ }
-    ensures made { λ r. ⌜ (r .fits ≡ true → indexedOf (r .head) (now (index .exit)) (now (terms .exit)) (now (weights .exit)) (now (counts .exit)) ≡ imageOf 4 variables (addAll (changes rule (now (f .entry)) (now (g .entry)) amount) [])) ⌝ }
-    ensures kept { λ r. ⌜ Kept 4 (r .head) (now (index .exit)) (now (terms .exit)) (now (weights .exit)) (now (counts .exit)) ⌝ }
+    requires { ⌜ Lent variables (now f) (now g) amount (now index) (now terms) (now weights) (now counts) ⌝ }
+    ensures { λ r. ⌜ Made rule variables (now (f .entry)) (now (g .entry)) amount r (now (index .exit)) (now (terms .exit)) (now (weights .exit)) (now (counts .exit)) ⌝ }
 {
     match rule {
         Rule::Sum => plan_sum(variables, f, g, amount, index, terms, weights, counts),

@@ -6,9 +6,9 @@ use lib.IntN.{ℤ}
 use denote.Ref.{now}
 use mir.Facts.{toZ-ofZ}
 use borrow.Author.Needs.{needs}
+use Rattle.calculus.specs.Planning.{Made}
 use Rattle.calculus.specs.declared.Rule.{Rule}
 use Rattle.calculus.specs.declared.plan.Plan.{Plan}
-use Rattle.calculus.proofs.Plans.{Made}
 use Rattle.calculus.proofs.plan.plan_of.Statement.{statement}
 use Rattle.calculus.proofs.plan.plan_of.Tie as tie
 

@@ -25,8 +25,9 @@ use Rattle.configuration.specs.TurnLaws.{empty}
 use Rattle.configuration.specs.declared.Head.{Head}
 use Rattle.calculus.specs.Calculus.{conclusions, changes, allShort}
 use Rattle.calculus.specs.CalculusLaws.{changes-fit}
+use Rattle.calculus.specs.Planning.{Made}
 use Rattle.calculus.specs.declared.Rule.the-variants.{Prod}
-use Rattle.calculus.proofs.Plans.{negated-fits, negated-is, small-changes, exact-of, room, long, short, below-32, plus-one, Folded, folded-none, fold-asked, fold-given, Made, made-unfit, made-none}
+use Rattle.calculus.proofs.Plans.{negated-fits, negated-is, small-changes, exact-of, room, long, short, below-32, plus-one, Folded, folded-none, fold-asked, fold-given, made-all, made-unfit, made-none}
 use Rattle.calculus.proofs.plan.plan_prod.Statement.{statement}
 use Rattle.calculus.proofs.plan.plan_prod.Tie as tie
 
@@ -259,7 +260,7 @@ same-length-4 c = three (last c) .kept .counts-length ∙ sym (none (begun (at-t
 
 returns-5 : tie.Need-returns-5
 unfolding negated
-returns-5 c = let k = three (last c) in (sym (fits (at-three (last c))), (λ z. k .memory, k .kept))
+returns-5 c = let s = begun (at-three (last c)) in made-all Prod (left s) (right s) (s .args .amount) (three (last c)) (fits (at-three (last c)))
 
 pub plan-prod-spec : {M : Type 1} → statement M
 plan-prod-spec =

@@ -22,7 +22,7 @@ use Rattle.configuration.specs.declared.Head.{Head}
 use Rattle.calculus.specs.Calculus.{conclusions, changes, allShort}
 use Rattle.calculus.specs.CalculusLaws.{changes-fit}
 use Rattle.calculus.specs.declared.Rule.the-variants.{Sum}
-use Rattle.calculus.proofs.Plans.{negated-fits, negated-is, doubled-fits, doubled-is, small-changes, exact-of, room, long, short, Folded, folded-none, fold-asked, fold-given, made-unfit}
+use Rattle.calculus.proofs.Plans.{negated-fits, negated-is, doubled-fits, doubled-is, small-changes, exact-of, room, long, short, Folded, folded-none, fold-asked, fold-given, made-all, made-unfit}
 use Rattle.calculus.proofs.plan.plan_sum.Statement.{statement}
 use Rattle.calculus.proofs.plan.plan_sum.Tie as tie
 
@@ -244,7 +244,7 @@ same-length-4 c = four (last c) .kept .counts-length ∙ sym (none (begun (at-fo
 
 returns-3 : tie.Need-returns-3
 unfolding negated
-returns-3 c = let k = four (last c) in (sym (fits (at-four (last c))), (λ z. k .memory, k .kept))
+returns-3 c = let s = begun (at-four (last c)) in made-all Sum (left s) (right s) (s .args .amount) (four (last c)) (fits (at-four (last c)))
 
 pub plan-sum-spec : {M : Type 1} → statement M
 plan-sum-spec =

@@ -13,8 +13,9 @@ use Rattle.configuration.specs.Index.{indexedOf, Kept}
 use Rattle.configuration.specs.Replacement.{Step, unless, within, replaced}
 use Rattle.configuration.specs.declared.Head.{Head}
 use Rattle.calculus.specs.Calculus.{conclusions, changes, allShort, Told, Left, leftOf, leaves}
+use Rattle.calculus.specs.Planning.{Made}
 use Rattle.calculus.specs.declared.Stepped.{Stepped}
-use Rattle.calculus.proofs.Plans.{Made, made-folded, made-asked, folded-lines}
+use Rattle.calculus.proofs.Plans.{made-folded, made-asked, folded-lines}
 use Rattle.calculus.proofs.Steps.{leftBy, changed-is}
 use Rattle.calculus.proofs.step.change.Statement.{statement}
 use Rattle.calculus.proofs.step.change.Tie as tie
@@ -97,16 +98,16 @@ returns c =
     )
 
 slice-aggregate-replace : tie.Need-slice-aggregate-replace
-slice-aggregate-replace c = sym (made (c .before .before .before .before .before .before .before .before .before .before .before) .1 .1 .entries)
+slice-aggregate-replace c = sym (made (c .before .before .before .before .before .before .before .before .before .before .before) .2 .entries)
 
 slice-aggregate-replace-2 : tie.Need-slice-aggregate-replace-2
-slice-aggregate-replace-2 c = sym (made (c .before .before .before .before .before .before .before .before .before .before .before .before) .1 .1 .terms-length)
+slice-aggregate-replace-2 c = sym (made (c .before .before .before .before .before .before .before .before .before .before .before .before) .2 .terms-length)
 
 slice-aggregate-replace-3 : tie.Need-slice-aggregate-replace-3
-slice-aggregate-replace-3 c = sym (made (c .before .before .before .before .before .before .before .before .before .before .before .before .before) .1 .1 .weights-length)
+slice-aggregate-replace-3 c = sym (made (c .before .before .before .before .before .before .before .before .before .before .before .before .before) .2 .weights-length)
 
 slice-aggregate-replace-4 : tie.Need-slice-aggregate-replace-4
-slice-aggregate-replace-4 c = sym (made (c .before .before .before .before .before .before .before .before .before .before .before .before .before .before) .1 .1 .counts-length)
+slice-aggregate-replace-4 c = sym (made (c .before .before .before .before .before .before .before .before .before .before .before .before .before .before) .2 .counts-length)
 
 replace-requires : tie.Need-replace-requires
 replace-requires c κs =
