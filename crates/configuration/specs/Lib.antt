@@ -9,6 +9,7 @@ pub mod PlaceLaws
 pub mod MemoryLaws
 pub mod ReplacementLaws
 pub mod Index
+pub mod Table
 pub mod Settling
 pub mod IndexLaws
 pub mod TurnLaws

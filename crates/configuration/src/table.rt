@@ -22,6 +22,7 @@ ghost use Rattle.polynomial.specs.Polynomial.{orderOf};
 ghost use Rattle.configuration.specs.Configuration.{line, some, weight, add, isPolynomial, placeOf, isHeld};
 ghost use Rattle.configuration.specs.Memory.{imageOf, formed};
 ghost use Rattle.configuration.specs.Index.{rowOf, keyIn, indexedOf, linesBy, firstKey, Kept};
+ghost use Rattle.configuration.specs.Table.{tableAt, tableBefore, tableAfter, tableCapacity, tableMemory, tableLines, TableKept, tableFormed};
 
 // Where a polynomial stands, or would stand, among the lines, and whether it is held.
 pub struct Place {
@@ -221,11 +222,12 @@ pub fn fold_at(
     first: u64,
     amount: i64,
 ) -> Head
-    requires { ⌜ Kept (length (now counts)) head (now index) (now terms) (now weights) (now counts) × T (formed (length (now counts)) (indexedOf head (now index) (now terms) (now weights) (now counts))) × T (isPolynomial (head .variables) (now f)) × T (some (now f)) × (at ≡ placeOf (now f) (linesBy head (now index) (now terms) (now weights) (now counts))) × (old ≡ weight (linesBy head (now index) (now terms) (now weights) (now counts)) (now f)) × (mag (weight (linesBy head (now index) (now terms) (now weights) (now counts)) (now f) +ℤ amount) < 2 ^ 63) × (length (add (now f) amount (linesBy head (now index) (now terms) (now weights) (now counts))) ≤ length (now counts)) × (first ≡ firstKey (now f)) ⌝ }
-    ensures table { λ r. ⌜ indexedOf r (now (index .exit)) (now (terms .exit)) (now (weights .exit)) (now (counts .exit))
-        ≡ imageOf (length (now (counts .entry))) (head .variables)
-        (add (now (f .entry)) amount (linesBy head (now (index .entry)) (now (terms .entry)) (now (weights .entry)) (now (counts .entry)))) ⌝ }
-    ensures kept { λ r. ⌜ Kept (length (now (counts .entry))) r (now (index .exit)) (now (terms .exit)) (now (weights .exit)) (now (counts .exit)) ⌝ }
+    requires { let t = tableAt head index terms weights counts in let L = tableLines t in let p = now f in
+        ⌜ TableKept (tableCapacity t) t × T (tableFormed (tableCapacity t) t) × T (isPolynomial (head .variables) p) × T (some p) × (at ≡ placeOf p L)
+        × (old ≡ weight L p) × (mag (weight L p +ℤ amount) < 2 ^ 63) × (length (add p amount L) ≤ tableCapacity t) × (first ≡ firstKey p) ⌝ }
+    ensures table { λ r. let t = tableBefore head index terms weights counts in
+        ⌜ tableMemory (tableAfter r index terms weights counts) ≡ imageOf (tableCapacity t) (head .variables) (add (now (f .entry)) amount (tableLines t)) ⌝ }
+    ensures kept { λ r. ⌜ TableKept (tableCapacity (tableBefore head index terms weights counts)) (tableAfter r index terms weights counts) ⌝ }
 {
     if old != 0 {
         let here = row_at(index, at);
