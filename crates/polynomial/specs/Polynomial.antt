@@ -14,6 +14,13 @@ use Rattle.polynomial.specs.declared.Outcome.{Outcome}
 use Rattle.polynomial.specs.declared.Ordering.{Ordering}
 use Rattle.polynomial.specs.declared.Ordering.the-variants.{Earlier, Same, Later}
 
+-- "The polynomials 0 and 1 have fixed names ..: 0 has no term, 1 has only mask 0."
+abbrev pub ZERO : List ℕ
+ZERO = []
+
+abbrev pub ONE : List ℕ
+ONE = 0 ∷ []
+
 -- the value at an assignment of a sum of terms, in order or not
 unfoldable pub eval : List ℕ → ℕ → Bool
 eval [] α = false
@@ -40,14 +47,14 @@ has i m = eqb (m / 2 ^ i % 2) 1
 
 -- "A clause becomes a product: a factor (x + 1) for each plain literal, a factor x for each negated one."
 abbrev pub plainFactor : ℕ → ℕ → List ℕ
-plainFactor i plain = cond (has i plain) (2 ^ i ∷ 0 ∷ []) (0 ∷ [])
+plainFactor i plain = cond (has i plain) (2 ^ i ∷ ONE) ONE
 
 abbrev pub negatedFactor : ℕ → ℕ → List ℕ
-negatedFactor i negated = cond (has i negated) (2 ^ i ∷ []) (0 ∷ [])
+negatedFactor i negated = cond (has i negated) (2 ^ i ∷ []) ONE
 
 -- the product of the factors of the first d variables
 unfoldable pub factors : ℕ → ℕ → ℕ → List ℕ
-factors zero plain negated = 0 ∷ []
+factors zero plain negated = ONE
 factors (suc d) plain negated = productOf (plainFactor d plain) (productOf (negatedFactor d negated) (factors d plain negated))
 
 abbrev pub clauseOf : ℕ → ℕ → List ℕ
@@ -99,7 +106,7 @@ polynomialOf l = record { terms = l ++ replicate (64 - length l) 0; count = leng
 
 -- the answer for an exact result: its length, and the polynomial itself where that is at most 64, else 0
 abbrev pub outcomeOf : List ℕ → Outcome
-outcomeOf l = record { length = length l; polynomial = cond (leb (length l) 64) (polynomialOf l) (polynomialOf []) }
+outcomeOf l = record { length = length l; polynomial = cond (leb (length l) 64) (polynomialOf l) (polynomialOf ZERO) }
 
 -- ---- lent runs and areas
 -- what is answered of a sum or a product l of two runs: a run of more than 64 terms is no polynomial and stands for itself, f before g; else l
