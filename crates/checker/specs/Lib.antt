@@ -5,4 +5,5 @@ pub mod CostRule
 pub mod OneListing
 pub mod LeftForm
 pub mod Lengths
+pub mod StepTests
 pub mod DeskTable
