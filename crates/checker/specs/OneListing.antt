@@ -1,5 +1,5 @@
--- Demand 2, of the records: "Equal problems (as functions, at equal total weights, equally many variables) have one listing and one code, in any order of
--- entry." Two accepted filings of one problem leave one head, one content of the term area and the table, one listing and one code.
+-- Demand 2, of the records: equal problems, as functions at equal total weights and over equally many variables, have one listing and one code, in any order
+-- of entry. Two accepted filings of one problem leave one head, one content of the term area and the table, one listing and one code.
 use mathlib.Core.Path.{_≡_, ap, _∙_}
 use mathlib.Core.Bool.{Bool, false, _&&_}
 use mathlib.Core.List.{List, []}

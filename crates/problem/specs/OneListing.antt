@@ -1,5 +1,5 @@
--- Demand 2, of the bytes: "Equal problems (as functions, at equal total weights, equally many variables) have one listing and one code, in any order of
--- entry." Two accepted filings of one problem leave one head, one content of the areas, one listing and one code.
+-- Demand 2, of the bytes: equal problems, as functions at equal total weights and over equally many variables, have one listing and one code, in any order of
+-- entry. Two accepted filings of one problem leave one head, one content of the areas, one listing and one code.
 use mathlib.Core.Path.{_≡_, ap}
 use mathlib.Core.Bool.{false}
 use mathlib.Core.List.{List, []}
