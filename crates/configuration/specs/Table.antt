@@ -1,5 +1,5 @@
 -- A table as functions are lent it: a head, an index and three areas, so that a contract names the five once before and once after. `tableAt` is for what a
--- function asks, `tableBefore` and `tableAfter` for what it promises.
+-- function asks, `tableBefore` and `tableAfter` for what it promises; `memoryAt`, `memoryBefore` and `memoryAfter` are the same without an index.
 use mathlib.Core.Bool.{Bool}
 use mathlib.Core.List.{List}
 use Prim.Native.Nat.{ℕ}
@@ -8,7 +8,7 @@ use denote.Triple.Both.{Both}
 use lib.IntN.{ℤ}
 use lib.ListN.{length}
 use Rattle.configuration.specs.Configuration.{Line}
-use Rattle.configuration.specs.Memory.{Memory, formed, wellFormed}
+use Rattle.configuration.specs.Memory.{Memory, memoryOf, formed, wellFormed}
 use Rattle.configuration.specs.Index.{indexedOf, linesBy, Kept}
 use Rattle.configuration.specs.declared.Head.{Head}
 
@@ -27,6 +27,16 @@ tableBefore h is ts ws cs = tableAt h (is .entry) (ts .entry) (ws .entry) (cs .e
 
 abbrev pub tableAfter : {A B C D : Type 0} → Head → Both A (RefT (List ℕ)) → Both B (RefT (List ℕ)) → Both C (RefT (List ℤ)) → Both D (RefT (List ℕ)) → Table
 tableAfter h is ts ws cs = tableAt h (is .exit) (ts .exit) (ws .exit) (cs .exit)
+
+-- a head and three areas whose lines stand in turn, so that no index is lent
+abbrev pub memoryAt : Head → RefT (List ℕ) → RefT (List ℤ) → RefT (List ℕ) → Memory
+memoryAt h ts ws cs = memoryOf h (now ts) (now ws) (now cs)
+
+abbrev pub memoryBefore : {A B C : Type 0} → Head → Both (RefT (List ℕ)) A → Both (RefT (List ℤ)) B → Both (RefT (List ℕ)) C → Memory
+memoryBefore h ts ws cs = memoryAt h (ts .entry) (ws .entry) (cs .entry)
+
+abbrev pub memoryAfter : {A B C : Type 0} → Head → Both A (RefT (List ℕ)) → Both B (RefT (List ℤ)) → Both C (RefT (List ℕ)) → Memory
+memoryAfter h ts ws cs = memoryAt h (ts .exit) (ws .exit) (cs .exit)
 
 -- how many lines a table has room for
 abbrev pub tableCapacity : Table → ℕ
