@@ -17,7 +17,7 @@ use mir.Val.{SFits, toZ, ofZ}
 use mir.Facts.{toZ-ofZ}
 use borrow.Author.Tests.{ltb-true, ltb-false, le-leb, lt-leb, ne-eqb}
 use Rattle.run.specs.Boolean.{of-true}
-use Rattle.polynomial.specs.Polynomial.{sumOf, productOf, Below, firstLong, placed}
+use Rattle.polynomial.specs.Polynomial.{ZERO, ONE, sumOf, productOf, Below, firstLong, placed}
 use Rattle.polynomial.specs.PolynomialLaws.{product-plus-one, exact}
 use Rattle.configuration.specs.Weight.{limit, inRange}
 use Rattle.configuration.specs.Configuration.{Line, line, weight, add, addAll, negated, Every, isPolynomial, linesFit}
@@ -112,7 +112,7 @@ below-32 n f h k = go f (polynomial-below n f k)
     go (t ∷ f) k = (le-trans (k .0) (pow-mono h), go f (k .1))
 
 -- f g + f, worked out from f g, is f (g + 1)
-pub plus-one : (f g p : List ℕ) → Below 32 f → Below 32 g → p ≡ productOf f g → sumOf p f ≡ productOf f (sumOf g (0 ∷ []))
+pub plus-one : (f g p : List ℕ) → Below 32 f → Below 32 g → p ≡ productOf f g → sumOf p f ≡ productOf f (sumOf g ONE)
 plus-one f g p a b h = ap (λ (x : List ℕ). sumOf x f) h ∙ sym (product-plus-one 32 f g a b)
 
 -- ---- no change of a rule is as large as 2 ^ 42
@@ -203,19 +203,19 @@ pub made-unfit : (r : Rule) {n : ℕ} (f g : List ℕ) (w : ℤ) {is ts : List �
 made-unfit r f g w {is = is} {ts = ts} {ws = ws} {cs = cs} p k e d = rw e (sym d, k .memory ∙ rw d, k .kept)
 
 -- and so does one of PROD where f g or f (g + 1) has no term
-no-terms : (l : List ℕ) → length l ≡ 0 → l ≡ []
+no-terms : (l : List ℕ) → length l ≡ 0 → l ≡ ZERO
 no-terms [] e = refl
 no-terms (t ∷ l) e = let z : ⊥ = omega arith in absurd z
 
 pub made-none : {n : ℕ} (f g : List ℕ) (w : ℤ) {is ts : List ℕ} {ws : List ℤ} {cs : List ℕ} → Folded n [] (empty n) is ts ws cs
     → T (isPolynomial n f) → T (isPolynomial n g) → allShort (conclusions Prod f g w) ≡ true
-    → (length (productOf f g) ≡ 0) ⊎ (length (productOf f (sumOf g (0 ∷ []))) ≡ 0) → Made Prod n f g w (record { fits = true; head = empty n }) is ts ws cs
+    → (length (productOf f g) ≡ 0) ⊎ (length (productOf f (sumOf g ONE)) ≡ 0) → Made Prod n f g w (record { fits = true; head = empty n }) is ts ws cs
 unfolding addAll
 made-none {n = n} f g w k hf hg d h = (sym d, k .memory ∙ rw d (ap (imageOf 4 n) (sym (none-changed n f g w hf hg (go h)))), k .kept)
   where
-    go : (length (productOf f g) ≡ 0) ⊎ (length (productOf f (sumOf g (0 ∷ []))) ≡ 0) → (productOf f g ≡ []) ⊎ (productOf f (sumOf g (0 ∷ [])) ≡ [])
+    go : (length (productOf f g) ≡ 0) ⊎ (length (productOf f (sumOf g ONE)) ≡ 0) → (productOf f g ≡ ZERO) ⊎ (productOf f (sumOf g ONE) ≡ ZERO)
     go (inl e) = inl (no-terms (productOf f g) e)
-    go (inr e) = inr (no-terms (productOf f (sumOf g (0 ∷ []))) e)
+    go (inr e) = inr (no-terms (productOf f (sumOf g ONE)) e)
 
 made-few : (r : Rule) (f g : List ℕ) (w : ℤ) → length (changes r f g w) ≤ 4
 unfolding negated

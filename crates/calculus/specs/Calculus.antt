@@ -8,7 +8,7 @@ use lib.Signed.{leZ}
 use lib.ListN.{length}
 use Rattle.run.specs.Run.{sorted}
 use Rattle.term.specs.Term.{before}
-use Rattle.polynomial.specs.Polynomial.{sumOf, productOf}
+use Rattle.polynomial.specs.Polynomial.{ONE, sumOf, productOf}
 use Rattle.configuration.specs.Weight.{limit, inRange, isZero}
 use Rattle.configuration.specs.Configuration.{Line, line, some, weight, addAll, negated, below, anyNegative}
 use Rattle.configuration.specs.Memory.{Memory, linesOf, imageOf, sized, wellFormed}
@@ -33,7 +33,7 @@ premises Prod f g w = line f w ∷ []
 
 abbrev pub conclusions : Rule → List ℕ → List ℕ → ℤ → List Line
 conclusions Sum f g w = line (sumOf f g) w ∷ line (productOf f g) (w +ℤ w) ∷ []
-conclusions Prod f g w = line (productOf f g) w ∷ line (productOf f (sumOf g (0 ∷ []))) w ∷ []
+conclusions Prod f g w = line (productOf f g) w ∷ line (productOf f (sumOf g ONE)) w ∷ []
 
 abbrev pub changes : Rule → List ℕ → List ℕ → ℤ → List Line
 changes r f g w = negated (premises r f g w) ++ conclusions r f g w
@@ -61,13 +61,20 @@ allShort [] = true
 allShort (line f w ∷ L) = leb (length f) 64 && allShort L
 
 -- ---- one step of a configuration
-unfoldable pub step : Rule → Mode → List ℕ → List ℕ → ℤ → List Line → Step
-step r m f g w L =
+-- the tests of the mode, in their order, in front of what follows: a negative line, the amount, the weight that is taken away
+abbrev pub modeTests : Rule → Mode → List ℕ → List ℕ → ℤ → List Line → Step → Step
+modeTests r m f g w L s =
     unless (not (isPlain m && anyNegative L)) 12
     (unless (amountFits m w) 8
     (unless (not (isPlain m) || there L (premises r f g w)) 9
-    (unless (allShort (conclusions r f g w)) 7
-    (within (addAll (changes r f g w) L)))))
+    s))
+
+-- the changes, where no result has more than 64 terms and all is within the limits
+abbrev pub changed : Rule → List ℕ → List ℕ → ℤ → List Line → Step
+changed r f g w L = unless (allShort (conclusions r f g w)) 7 (within (addAll (changes r f g w) L))
+
+unfoldable pub step : Rule → Mode → List ℕ → List ℕ → ℤ → List Line → Step
+step r m f g w L = modeTests r m f g w L (changed r f g w L)
 
 -- what code finds against a step, in front of what follows if nothing is found
 abbrev pub objected : Objection → Step → Step
@@ -101,15 +108,20 @@ abbrev pub leaves : Memory → Step → Left
 leaves m (taken L) = record { memory = imageOf 128 (m .variables) L; told = done }
 leaves m (refused n) = record { memory = m; told = refusedAt 0 n }
 
+-- the tests of the operands of a step that is taken directly, in their order, in front of what follows: lengths, variables, order
+abbrev pub operandTests : ℕ → List ℕ → List ℕ → Step → Step
+operandTests n f g s =
+    unless (leb (length f) 64 && leb (length g) 64) 7
+    (unless (below n f && below n g) 6
+    (unless (sorted before f && sorted before g) 16
+    s))
+
 -- the tests of a step that is taken directly, then the step
 unfoldable pub judged : Rule → Mode → List ℕ → List ℕ → ℤ → Memory → Step
 judged r d f g w m =
     unless (sized 128 m) 1
     (unless (wellFormed m) 2
-    (unless (leb (length f) 64 && leb (length g) 64) 7
-    (unless (below (m .variables) f && below (m .variables) g) 6
-    (unless (sorted before f && sorted before g) 16
-    (step r d f g w (linesOf m))))))
+    (operandTests (m .variables) f g (step r d f g w (linesOf m))))
 
 abbrev pub directStep : Rule → Mode → List ℕ → List ℕ → ℤ → Memory → Left
 directStep r d f g w m = leaves m (judged r d f g w m)

@@ -16,7 +16,7 @@ use Rattle.run.specs.F2.{_⊕_}
 use Rattle.run.specs.Run.{sorted, Sorted}
 use Rattle.run.specs.RunLaws.{normal-id}
 use Rattle.term.specs.Term.{before}
-use Rattle.polynomial.specs.Polynomial.{eval, sumOf, productOf, Below}
+use Rattle.polynomial.specs.Polynomial.{ZERO, ONE, eval, sumOf, productOf, Below}
 use Rattle.polynomial.specs.PolynomialLaws.{written, eval-sum, eval-product, eval-one, sum-ordered, product-ordered, sum-below, product-below, product-plus-one}
 use Rattle.configuration.specs.Weight.{isNegative, share}
 use Rattle.configuration.specs.Configuration.{Line, line, some, same, total, cost, weight, addAll, negated, Ordered, Every, below, isPolynomial, linesFit, weightsFit, anyNegative}
@@ -50,7 +50,7 @@ prod-sound false b w = refl
 pub sound : (r : Rule) (f g : List ℕ) (w : ℤ) (α : ℕ) → cost (premises r f g w) α ≡ cost (conclusions r f g w) α
 unfolding total
 sound Sum f g w α = rw (eval-sum f g α, eval-product f g α) (sum-sound (eval f α) (eval g α) w)
-sound Prod f g w α = rw (eval-product f g α, eval-product f (sumOf g (0 ∷ [])) α, eval-sum g (0 ∷ []) α, eval-one α) (prod-sound (eval f α) (eval g α) w)
+sound Prod f g w α = rw (eval-product f g α, eval-product f (sumOf g ONE) α, eval-sum g ONE α, eval-one α) (prod-sound (eval f α) (eval g α) w)
 
 -- ---- what the changes of a rule sum to, and what they do to a configuration
 total-changes : (test : List ℕ → Bool) (r : Rule) (f g : List ℕ) (w : ℤ)
@@ -65,16 +65,16 @@ pub stepped-cost : (r : Rule) (f g : List ℕ) (w : ℤ) (L : List Line) (α : �
 stepped-cost r f g w L α = cost-all (changes r f g w) L α ∙ rw (changes-cost r f g w α) (+ℤ-idr (cost L α))
 
 -- ---- where f g or f (g + 1) is 0 the other is f, and PROD changes nothing
-rest-whole : (n : ℕ) (f g : List ℕ) → Below n f → Below n g → Sorted before f → productOf f g ≡ [] → productOf f (sumOf g (0 ∷ [])) ≡ f
+rest-whole : (n : ℕ) (f g : List ℕ) → Below n f → Below n g → Sorted before f → productOf f g ≡ ZERO → productOf f (sumOf g ONE) ≡ f
 rest-whole n f g a b s e = product-plus-one n f g a b ∙ ap (λ (p : List ℕ). sumOf p f) e ∙ normal-id before written f s
 
-product-whole : (n : ℕ) (f g : List ℕ) → Below n f → Below n g → Sorted before f → productOf f (sumOf g (0 ∷ [])) ≡ [] → productOf f g ≡ f
+product-whole : (n : ℕ) (f g : List ℕ) → Below n f → Below n g → Sorted before f → productOf f (sumOf g ONE) ≡ ZERO → productOf f g ≡ f
 unfolding eval
 product-whole n f g a b s e = P.unique n (productOf f g) f (product-ordered f g) s (product-below n f g a b) a
     (λ α k. eval-product f g α ∙ at (eval f α) (eval g α) (gone α))
   where
     gone : (α : ℕ) → (eval f α && (eval g α ⊕ true)) ≡ false
-    gone α = sym (eval-product f (sumOf g (0 ∷ [])) α ∙ rw (eval-sum g (0 ∷ []) α, eval-one α)) ∙ ap (λ (p : List ℕ). eval p α) e
+    gone α = sym (eval-product f (sumOf g ONE) α ∙ rw (eval-sum g ONE α, eval-one α)) ∙ ap (λ (p : List ℕ). eval p α) e
 
     at : (x y : Bool) → (x && (y ⊕ true)) ≡ false → (x && y) ≡ x
     at true true h = refl
@@ -82,7 +82,7 @@ product-whole n f g a b s e = P.unique n (productOf f g) f (product-ordered f g)
     at false y h = refl
 
 pub none-changed : (n : ℕ) (f g : List ℕ) (w : ℤ) → T (isPolynomial n f) → T (isPolynomial n g)
-    → (productOf f g ≡ []) ⊎ (productOf f (sumOf g (0 ∷ [])) ≡ []) → addAll (changes Prod f g w) [] ≡ []
+    → (productOf f g ≡ ZERO) ⊎ (productOf f (sumOf g ONE) ≡ ZERO) → addAll (changes Prod f g w) [] ≡ []
 unfolding total negated
 none-changed n f g w hf hg h = C.unique (addAll (changes Prod f g w) []) [] (all-ordered (changes Prod f g w) [] tt) tt
     (λ p k. weight-all p k (changes Prod f g w) [] ∙ go p k h)
@@ -96,7 +96,7 @@ none-changed n f g w hf hg h = C.unique (addAll (changes Prod f g w) []) [] (all
     s : Sorted before f
     s = polynomial-sorted n f hf
 
-    go : (p : List ℕ) → T (some p) → (productOf f g ≡ []) ⊎ (productOf f (sumOf g (0 ∷ [])) ≡ []) → pos 0 +ℤ weight (changes Prod f g w) p ≡ pos 0
+    go : (p : List ℕ) → T (some p) → (productOf f g ≡ ZERO) ⊎ (productOf f (sumOf g ONE) ≡ ZERO) → pos 0 +ℤ weight (changes Prod f g w) p ≡ pos 0
     go p k (inl e) = rw (e, rest-whole n f g a b s e, same-none p k, share-neg (same p f) w)
         (solve (share (same p f) w ∷ []) (o ⊞ (⊟ (v 0) ⊞ (o ⊞ (v 0 ⊞ o)))) o tt)
     go p k (inr e) = rw (e, product-whole n f g a b s e, same-none p k, share-neg (same p f) w)
@@ -274,14 +274,14 @@ module _ (r : Rule) (f g : List ℕ) (w : ℤ) (n : ℕ) (hf : T (isPolynomial n
       b = polynomial-below n g hg
 
       g₁ : List ℕ
-      g₁ = sumOf g (0 ∷ [])
+      g₁ = sumOf g ONE
 
-      one : Below n (0 ∷ [])
+      one : Below n ONE
       one = (pow-pos n, tt)
 
       go : (r : Rule) → Every (λ p. Below n p × Sorted before p) (conclusions r f g w)
       go Sum = ((sum-below n f g a b, sum-ordered f g), ((product-below n f g a b, product-ordered f g), tt))
-      go Prod = ((product-below n f g a b, product-ordered f g), ((product-below n f g₁ a (sum-below n g (0 ∷ []) b one), product-ordered f g₁), tt))
+      go Prod = ((product-below n f g a b, product-ordered f g), ((product-below n f g₁ a (sum-below n g ONE b one), product-ordered f g₁), tt))
 
   pub changes-fit : T (allShort (conclusions r f g w)) → Every (λ p. T (isPolynomial n p)) (changes r f g w)
   changes-fit h =

@@ -6,6 +6,8 @@ use Prim.Native.Nat.{ℕ, _≤_}
 use lib.Dec.{T}
 use lib.IntN.{ℤ, pos}
 use lib.ListN.{replicate}
+use denote.Ref.{RefT, now}
+use denote.Triple.Both.{Both}
 use Rattle.configuration.specs.Weight.{inRange}
 use Rattle.configuration.specs.Configuration.{Line, addAll, isPolynomial}
 use Rattle.configuration.specs.Memory.{imageOf}
@@ -29,3 +31,11 @@ abbrev pub Made : Rule → ℕ → List ℕ → List ℕ → ℤ → Plan → Li
 Made r n f g w p is ts ws cs =
     (p .fits ≡ allShort (conclusions r f g w))
     × (indexedOf (p .head) is ts ws cs ≡ imageOf 4 n (addAll (planned r f g w) [])) × Kept 4 (p .head) is ts ws cs
+
+-- ---- the same of what a function is lent by reference: what it asks, and what it promises
+abbrev pub LentAt : ℕ → RefT (List ℕ) → RefT (List ℕ) → ℤ → RefT (List ℕ) → RefT (List ℕ) → RefT (List ℤ) → RefT (List ℕ) → Type 0
+LentAt n f g w is ts ws cs = Lent n (now f) (now g) w (now is) (now ts) (now ws) (now cs)
+
+abbrev pub MadeAfter : {A B C D E F : Type 0} → Rule → ℕ → Both (RefT (List ℕ)) A → Both (RefT (List ℕ)) B → ℤ → Plan
+    → Both C (RefT (List ℕ)) → Both D (RefT (List ℕ)) → Both E (RefT (List ℤ)) → Both F (RefT (List ℕ)) → Type 0
+MadeAfter r n f g w p is ts ws cs = Made r n (now (f .entry)) (now (g .entry)) w p (now (is .exit)) (now (ts .exit)) (now (ws .exit)) (now (cs .exit))

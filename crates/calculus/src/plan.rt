@@ -6,7 +6,7 @@ use configuration::table::fold_in;
 use polynomial::Polynomial;
 ghost use mathlib.Core.Path.{_≡_};
 ghost use mathlib.Core.Bool.{false};
-ghost use Rattle.calculus.specs.Planning.{Lent, Made};
+ghost use Rattle.calculus.specs.Planning.{LentAt, MadeAfter};
 ghost use Rattle.calculus.specs.declared.Rule.the-variants.{Sum, Prod};
 
 // The head of the table that has the changes of a rule; where one of its results has more than 64 terms, that they do not fit.
@@ -39,8 +39,8 @@ fn plan_sum(
     weights: &mut [i64],
     counts: &mut [u32],
 ) -> Plan
-    requires { ⌜ Lent variables (now f) (now g) amount (now index) (now terms) (now weights) (now counts) ⌝ }
-    ensures { λ r. ⌜ Made Sum variables (now (f .entry)) (now (g .entry)) amount r (now (index .exit)) (now (terms .exit)) (now (weights .exit)) (now (counts .exit)) ⌝ }
+    requires { ⌜ LentAt variables f g amount index terms weights counts ⌝ }
+    ensures { λ r. ⌜ MadeAfter Sum variables f g amount r index terms weights counts ⌝ }
 {
     let mut sum = [0u32; 64];
     let m = Polynomial::sum(f, g, &mut sum);
@@ -77,8 +77,8 @@ fn plan_prod(
     weights: &mut [i64],
     counts: &mut [u32],
 ) -> Plan
-    requires { ⌜ Lent variables (now f) (now g) amount (now index) (now terms) (now weights) (now counts) ⌝ }
-    ensures { λ r. ⌜ Made Prod variables (now (f .entry)) (now (g .entry)) amount r (now (index .exit)) (now (terms .exit)) (now (weights .exit)) (now (counts .exit)) ⌝ }
+    requires { ⌜ LentAt variables f g amount index terms weights counts ⌝ }
+    ensures { λ r. ⌜ MadeAfter Prod variables f g amount r index terms weights counts ⌝ }
 {
     let mut product = [0u32; 64];
     let n = Polynomial::product(f, g, &mut product);
@@ -96,13 +96,13 @@ fn plan_prod(
         lines: 0,
     };
     // Where f g or f (g + 1) is 0 the other is f, which gets back what it loses: nothing changes.
-    if n == 0 {
+    if n == Polynomial::ZERO.count {
         return Plan {
             fits: true,
             head: none,
         };
     }
-    if m == 0 {
+    if m == Polynomial::ZERO.count {
         return Plan {
             fits: true,
             head: none,
@@ -127,8 +127,8 @@ pub fn plan_of(
     weights: &mut [i64],
     counts: &mut [u32],
 ) -> Plan
-    requires { ⌜ Lent variables (now f) (now g) amount (now index) (now terms) (now weights) (now counts) ⌝ }
-    ensures { λ r. ⌜ Made rule variables (now (f .entry)) (now (g .entry)) amount r (now (index .exit)) (now (terms .exit)) (now (weights .exit)) (now (counts .exit)) ⌝ }
+    requires { ⌜ LentAt variables f g amount index terms weights counts ⌝ }
+    ensures { λ r. ⌜ MadeAfter rule variables f g amount r index terms weights counts ⌝ }
 {
     match rule {
         Rule::Sum => plan_sum(variables, f, g, amount, index, terms, weights, counts),

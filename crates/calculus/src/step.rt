@@ -1,4 +1,4 @@
-// Taking one step.
+// Taking one step. Functions with a `requires` are for this crate, and `step` is for `derivation` too.
 use crate::Answer;
 use crate::Mode;
 use crate::Objection;
@@ -17,22 +17,19 @@ use configuration::index::settle;
 use configuration::replace::replace;
 use configuration::table::weight_of;
 use polynomial::Ordering;
+use polynomial::Polynomial;
 use polynomial::order::compare;
 use polynomial::order::in_order;
 use refusal::Reason;
 ghost use mathlib.Core.Path.{_≡_};
-ghost use mathlib.Core.Bool.{true, cond, not, _&&_, _||_};
-ghost use lib.Dec.{T, leb};
-ghost use Rattle.run.specs.Run.{sorted};
-ghost use Rattle.term.specs.Term.{before};
-ghost use lib.ListN.{length};
+ghost use mathlib.Core.Bool.{true, cond};
+ghost use lib.Dec.{T};
 ghost use lib.Signed.{leZ};
 ghost use Rattle.configuration.specs.Weight.{inRange};
-ghost use Rattle.configuration.specs.Configuration.{some, weight, addAll, below, isPolynomial, anyNegative};
-ghost use Rattle.configuration.specs.Memory.{memoryOf, formed, wellFormed};
-ghost use Rattle.configuration.specs.Index.{indexedOf, linesBy, Kept};
-ghost use Rattle.configuration.specs.Replacement.{Step, unless, within};
-ghost use Rattle.calculus.specs.Calculus.{premises, conclusions, changes, isPlain, amountFits, there, allShort, step as stepOf, toldOf, toldBy, leaves, leftOf, objected, directStep};
+ghost use Rattle.configuration.specs.Configuration.{some, weight, isPolynomial};
+ghost use Rattle.configuration.specs.Table.{tableAt, tableBefore, tableAfter, memoryBefore, memoryAfter, tableCapacity, tableMemory, tableLines, TableKept, tableFormed, tableWellFormed};
+ghost use Rattle.configuration.specs.Replacement.{Step};
+ghost use Rattle.calculus.specs.Calculus.{premises, there, modeTests, changed, step as stepOf, operandTests, toldOf, toldBy, leaves, leftOf, objected, directStep};
 
 // Whether as much as is asked of a polynomial is held. The polynomial 0 is never asked for.
 fn is_held(
@@ -44,10 +41,11 @@ fn is_held(
     f: &[u32],
     asked: i64,
 ) -> bool
-    requires { ⌜ Kept (length (now counts)) head (now index) (now terms) (now weights) (now counts) × T (formed (length (now counts)) (indexedOf head (now index) (now terms) (now weights) (now counts))) ⌝ }
-    ensures { λ r. ⌜ r ≡ cond (some (now (f .entry))) (leZ asked (weight (linesBy head (now (index .entry)) (now (terms .entry)) (now (weights .entry)) (now (counts .entry))) (now (f .entry)))) true ⌝ }
+    requires { let t = tableAt head index terms weights counts in ⌜ TableKept (tableCapacity t) t × T (tableFormed (tableCapacity t) t) ⌝ }
+    ensures { λ r. let L = tableLines (tableBefore head index terms weights counts) in let p = now (f .entry) in
+        ⌜ r ≡ cond (some p) (leZ asked (weight L p)) true ⌝ }
 {
-    if f.len() == 0 {
+    if f.len() == Polynomial::ZERO.count {
         return true;
     }
     asked <= weight_of(head, index, terms, weights, counts, f)
@@ -65,8 +63,9 @@ fn is_there(
     g: &[u32],
     amount: i64,
 ) -> bool
-    requires { ⌜ Kept (length (now counts)) head (now index) (now terms) (now weights) (now counts) × T (formed (length (now counts)) (indexedOf head (now index) (now terms) (now weights) (now counts))) × T (inRange amount) ⌝ }
-    ensures { λ r. ⌜ r ≡ there (linesBy head (now (index .entry)) (now (terms .entry)) (now (weights .entry)) (now (counts .entry))) (premises rule (now (f .entry)) (now (g .entry)) amount) ⌝ }
+    requires { let t = tableAt head index terms weights counts in ⌜ TableKept (tableCapacity t) t × T (tableFormed (tableCapacity t) t) × T (inRange amount) ⌝ }
+    ensures { λ r. let L = tableLines (tableBefore head index terms weights counts) in
+        ⌜ r ≡ there L (premises rule (now (f .entry)) (now (g .entry)) amount) ⌝ }
 {
     match rule {
         Rule::Prod => is_held(head, index, terms, weights, counts, f, amount),
@@ -101,8 +100,9 @@ fn object(
     g: &[u32],
     amount: i64,
 ) -> Objection
-    requires { ⌜ Kept (length (now counts)) head (now index) (now terms) (now weights) (now counts) × T (formed (length (now counts)) (indexedOf head (now index) (now terms) (now weights) (now counts))) ⌝ }
-    ensures { λ r. ⌜ ((s : Step) → objected r s ≡ unless (not (isPlain mode && anyNegative (linesBy head (now (index .entry)) (now (terms .entry)) (now (weights .entry)) (now (counts .entry))))) 12 (unless (amountFits mode amount) 8 (unless (not (isPlain mode) || there (linesBy head (now (index .entry)) (now (terms .entry)) (now (weights .entry)) (now (counts .entry))) (premises rule (now (f .entry)) (now (g .entry)) amount)) 9 s))) ⌝ }
+    requires { let t = tableAt head index terms weights counts in ⌜ TableKept (tableCapacity t) t × T (tableFormed (tableCapacity t) t) ⌝ }
+    ensures { λ r. let L = tableLines (tableBefore head index terms weights counts) in
+        ⌜ ((s : Step) → objected r s ≡ modeTests rule mode (now (f .entry)) (now (g .entry)) amount L s) ⌝ }
 {
     if let Mode::Plain = mode {
         if !none_negative(weights) {
@@ -122,7 +122,7 @@ fn object(
 
 // The tests of the operands of a step that is taken directly: their lengths, their variables, their order.
 fn misfit(variables: u32, f: &[u32], g: &[u32]) -> Objection
-    ensures { λ r. ⌜ ((s : Step) → objected r s ≡ unless (leb (length (now (f .entry))) 64 && leb (length (now (g .entry))) 64) 7 (unless (below variables (now (f .entry)) && below variables (now (g .entry))) 6 (unless (sorted before (now (f .entry)) && sorted before (now (g .entry))) 16 s))) ⌝ }
+    ensures { λ r. ⌜ ((s : Step) → objected r s ≡ operandTests variables (now (f .entry)) (now (g .entry)) s) ⌝ }
 {
     if 64 < f.len() {
         return Objection::Found(Reason::TooManyTerms);
@@ -183,9 +183,12 @@ fn change(
     g: &[u32],
     amount: i64,
 ) -> Stepped
-    requires { ⌜ Kept 128 head (now index) (now terms) (now weights) (now counts) × T (wellFormed (indexedOf head (now index) (now terms) (now weights) (now counts))) × T (isPolynomial (head .variables) (now f)) × T (isPolynomial (head .variables) (now g)) × T (inRange amount) ⌝ }
-    ensures left { λ r. ⌜ leftOf (indexedOf (r .head) (now (index .exit)) (now (terms .exit)) (now (weights .exit)) (now (counts .exit))) (r .answer) ≡ leaves (indexedOf head (now (index .entry)) (now (terms .entry)) (now (weights .entry)) (now (counts .entry))) (unless (allShort (conclusions rule (now (f .entry)) (now (g .entry)) amount)) 7 (within (addAll (changes rule (now (f .entry)) (now (g .entry)) amount) (linesBy head (now (index .entry)) (now (terms .entry)) (now (weights .entry)) (now (counts .entry)))))) ⌝ }
-    ensures kept { λ r. ⌜ Kept 128 (r .head) (now (index .exit)) (now (terms .exit)) (now (weights .exit)) (now (counts .exit)) ⌝ }
+    requires { let t = tableAt head index terms weights counts in let n = head .variables in
+        ⌜ TableKept 128 t × T (tableWellFormed t) × T (isPolynomial n (now f)) × T (isPolynomial n (now g)) × T (inRange amount) ⌝ }
+    ensures left { λ r. let t = tableBefore head index terms weights counts in
+        ⌜ leftOf (tableMemory (tableAfter (r .head) index terms weights counts)) (r .answer)
+        ≡ leaves (tableMemory t) (changed rule (now (f .entry)) (now (g .entry)) amount (tableLines t)) ⌝ }
+    ensures kept { λ r. ⌜ TableKept 128 (tableAfter (r .head) index terms weights counts) ⌝ }
 {
     let mut new_index = [0u64, 1, 2, 3];
     let mut new_terms = [0u32; 256];
@@ -220,8 +223,8 @@ fn change(
     answered(done)
 }
 
-// Takes a step in a configuration that is known to be well formed, with polynomials of its variables. It is for this
-// crate and for the check of derivations, which have tested both.
+// Takes a step in a configuration that is known to be well formed, with polynomials of its variables. It is for this crate and
+// for `derivation`, which have tested both.
 pub fn step(
     head: Head,
     index: &mut [u64],
@@ -234,9 +237,12 @@ pub fn step(
     g: &[u32],
     amount: i64,
 ) -> Stepped
-    requires { ⌜ Kept 128 head (now index) (now terms) (now weights) (now counts) × T (wellFormed (indexedOf head (now index) (now terms) (now weights) (now counts))) × T (isPolynomial (head .variables) (now f)) × T (isPolynomial (head .variables) (now g)) ⌝ }
-    ensures left { λ r. ⌜ leftOf (indexedOf (r .head) (now (index .exit)) (now (terms .exit)) (now (weights .exit)) (now (counts .exit))) (r .answer) ≡ leaves (indexedOf head (now (index .entry)) (now (terms .entry)) (now (weights .entry)) (now (counts .entry))) (stepOf rule mode (now (f .entry)) (now (g .entry)) amount (linesBy head (now (index .entry)) (now (terms .entry)) (now (weights .entry)) (now (counts .entry)))) ⌝ }
-    ensures kept { λ r. ⌜ Kept 128 (r .head) (now (index .exit)) (now (terms .exit)) (now (weights .exit)) (now (counts .exit)) ⌝ }
+    requires { let t = tableAt head index terms weights counts in let n = head .variables in
+        ⌜ TableKept 128 t × T (tableWellFormed t) × T (isPolynomial n (now f)) × T (isPolynomial n (now g)) ⌝ }
+    ensures left { λ r. let t = tableBefore head index terms weights counts in
+        ⌜ leftOf (tableMemory (tableAfter (r .head) index terms weights counts)) (r .answer)
+        ≡ leaves (tableMemory t) (stepOf rule mode (now (f .entry)) (now (g .entry)) amount (tableLines t)) ⌝ }
+    ensures kept { λ r. ⌜ TableKept 128 (tableAfter (r .head) index terms weights counts) ⌝ }
 {
     let objection = object(
         head,
@@ -268,7 +274,8 @@ pub fn take_step(
     g: &[u32],
     amount: i64,
 ) -> Stepped
-    ensures { λ r. ⌜ leftOf (memoryOf (r .head) (now (terms .exit)) (now (weights .exit)) (now (counts .exit))) (r .answer) ≡ directStep rule mode (now (f .entry)) (now (g .entry)) amount (memoryOf head (now (terms .entry)) (now (weights .entry)) (now (counts .entry))) ⌝ }
+    ensures { λ r. ⌜ leftOf (memoryAfter (r .head) terms weights counts) (r .answer)
+        ≡ directStep rule mode (now (f .entry)) (now (g .entry)) amount (memoryBefore head terms weights counts) ⌝ }
 {
     if terms.len() != 8192 {
         return refused(head, Reason::WrongLength);

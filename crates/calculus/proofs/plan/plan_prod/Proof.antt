@@ -16,7 +16,7 @@ use mir.Val.{toZ, ofZ}
 use mir.Facts.{toZ-ofZ}
 use borrow.Author.Needs.{needs}
 use Rattle.run.specs.Boolean.{of-true}
-use Rattle.polynomial.specs.Polynomial.{sumOf, productOf}
+use Rattle.polynomial.specs.Polynomial.{ONE, sumOf, productOf}
 use Rattle.polynomial.specs.PolynomialLaws.{exact}
 use Rattle.configuration.specs.Configuration.{Line, Every, isPolynomial, negated}
 use Rattle.configuration.specs.FormLaws.{polynomial-short}
@@ -69,7 +69,7 @@ abbrev product : tie.Start → List ℕ
 product s = productOf (left s) (right s)
 
 abbrev rest : tie.Start → List ℕ
-rest s = productOf (left s) (sumOf (right s) (0 ∷ []))
+rest s = productOf (left s) (sumOf (right s) ONE)
 
 -- f g, as it is answered
 told-product : (c : tie.After-product2)
@@ -126,7 +126,7 @@ nothing c = let s = begun c in made-none (left s) (right s) (s .args .amount) (n
 
 -- ---- the table after each change
 abbrev at-one : tie.After-fold-in → tie.Else2
-at-one c = c .before .before .before .before .before .before .before
+at-one c = c .before .before .before .before .before .before .before .before .before
 
 one : (c : tie.After-fold-in)
     → (let r = c .fold-in in Has (begun (at-one c)) 1 (r .result) (r .last .1 .0) (r .last .1 .1 .0) (r .last .1 .1 .1 .0) (r .last .1 .1 .1 .1 .0))
@@ -207,21 +207,21 @@ returns-2 c =
 
 returns-3 : tie.Need-returns-3
 returns-3 c =
-    let k = c .before in
+    let k = c .before .before in
     nothing k (inl (sym (told-product (k .before .before .before .before .before) .0) ∙ c .if3 .taken))
 
 returns-4 : tie.Need-returns-4
 returns-4 c =
-    let k = c .before .before in
+    let k = c .before .before .before .before in
     nothing k (inr (sym (rest-size (k .before)) ∙ c .if4 .taken))
 
 sub-fold-in : tie.Need-sub-fold-in
-sub-fold-in c = let s = begun (c .before .before .before .before .before .before) in rw (gained s) (negated-fits (s .args .amount) (s .pre .1))
+sub-fold-in c = let s = begun (c .before .before .before .before .before .before .before .before) in rw (gained s) (negated-fits (s .args .amount) (s .pre .1))
 
 fold-in-requires : tie.Need-fold-in-requires
 unfolding negated
 fold-in-requires c κs =
-    let s = begun (c .before .before .before .before .before .before) in
+    let s = begun (c .before .before .before .before .before .before .before .before) in
     fold-asked (none s) (omega arith) refl (lost s) (s .pre .2) (small s .0)
 
 fold-in-requires-2 : tie.Need-fold-in-requires-2

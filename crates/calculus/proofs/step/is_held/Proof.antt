@@ -8,14 +8,14 @@ use Rattle.calculus.proofs.step.is_held.Statement.{statement}
 use Rattle.calculus.proofs.step.is_held.Tie as tie
 
 returns : tie.Need-returns
-returns c = held-nothing (now (c .before .before .before .before .before .args .f)) _ (c .if1 .taken)
+returns c = held-nothing (now (c .before .before .before .before .before .before .args .f)) _ (c .if1 .taken)
 
 weight-of-requires : tie.Need-weight-of-requires
-weight-of-requires c κs = let s = c .before .before .before .before .before in (s .pre .0, s .pre .1, some-of (now (s .args .f)) (c .if1 .left))
+weight-of-requires c κs = let s = c .before .before .before .before .before .before in (s .pre .0, s .pre .1, some-of (now (s .args .f)) (c .if1 .left))
 
 returns-2 : tie.Need-returns-2
 returns-2 c =
-    let s = c .before .before .before .before .before .before in
+    let s = c .before .before .before .before .before .before .before in
     rw (toZ-ofZ (s .fits .asked), toZ-ofZ {w = w64} {z = c .weight-of .result} (record { sfits = c .weight-of .ok }), c .weight-of .ensures) (held-some (now (s .args .f)) _ (c .before .if1 .left))
 
 pub is-held-spec : {M : Type 1} → statement M
