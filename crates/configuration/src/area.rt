@@ -35,7 +35,7 @@ pub fn is_weightless(weights: &[i64]) -> bool
 // Sets the numbers from start to end to zero.
 pub fn clear(area: &mut [u32], start: usize, end: usize)
     requires { ⌜ (start ≤ end) × (end ≤ length (now area)) ⌝ }
-    ensures { λ _. ⌜ now (area .exit) ≡ take start (now (area .entry)) ++ (replicate (end - start) 0 ++ drop end (now (area .entry))) ⌝ }
+    ensures { λ _. let l = now (area .entry) in ⌜ now (area .exit) ≡ take start l ++ (replicate (end - start) 0 ++ drop end l) ⌝ }
 {
     let mut i = start;
     while i < end {
@@ -47,7 +47,7 @@ pub fn clear(area: &mut [u32], start: usize, end: usize)
 // Puts an entry in at a place of an index; the entries from there to the end move up by one.
 pub fn insert_entry(index: &mut [u64], at: usize, end: usize, entry: u64)
     requires { ⌜ (at ≤ end) × (end < length (now index)) ⌝ }
-    ensures { λ _. ⌜ now (index .exit) ≡ take at (now (index .entry)) ++ (entry ∷ (slice at end (now (index .entry)) ++ drop (end + 1) (now (index .entry)))) ⌝ }
+    ensures { λ _. let is = now (index .entry) in ⌜ now (index .exit) ≡ take at is ++ (entry ∷ (slice at end is ++ drop (end + 1) is)) ⌝ }
 {
     let mut i = end;
     while at < i {
@@ -60,7 +60,7 @@ pub fn insert_entry(index: &mut [u64], at: usize, end: usize, entry: u64)
 // Takes out the entry at a place of an index; those after it, to the end, move down by one, and another comes in behind them.
 pub fn remove_entry(index: &mut [u64], at: usize, end: usize, entry: u64)
     requires { ⌜ (at < end) × (end ≤ length (now index)) ⌝ }
-    ensures { λ _. ⌜ now (index .exit) ≡ take at (now (index .entry)) ++ (slice (at + 1) end (now (index .entry)) ++ (entry ∷ drop end (now (index .entry)))) ⌝ }
+    ensures { λ _. let is = now (index .entry) in ⌜ now (index .exit) ≡ take at is ++ (slice (at + 1) end is ++ (entry ∷ drop end is)) ⌝ }
 {
     let mut i = at + 1;
     while i < end {

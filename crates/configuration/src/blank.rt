@@ -5,7 +5,8 @@ ghost use mathlib.Core.Path.{_≡_};
 ghost use mathlib.Core.List.{[]};
 ghost use lib.IntN.{pos};
 ghost use lib.ListN.{length, replicate};
-ghost use Rattle.configuration.specs.Memory.{memoryOf, imageOf};
+ghost use Rattle.configuration.specs.Memory.{imageOf};
+ghost use Rattle.configuration.specs.Table.{memoryAfter};
 
 // Sets every weight to zero.
 fn clear_weights(weights: &mut [i64])
@@ -21,7 +22,7 @@ fn clear_weights(weights: &mut [i64])
 // Sets the areas of a table to zero: they hold nothing, of no variables. It is for the filing of problems, which has tested the lengths.
 pub fn blank(terms: &mut [u32], weights: &mut [i64], counts: &mut [u32]) -> Head
     requires { ⌜ (length (now terms) ≡ 8192) × (length (now weights) ≡ 128) × (length (now counts) ≡ 128) ⌝ }
-    ensures { λ r. ⌜ memoryOf r (now (terms .exit)) (now (weights .exit)) (now (counts .exit)) ≡ imageOf 128 0 [] ⌝ }
+    ensures { λ r. ⌜ memoryAfter r terms weights counts ≡ imageOf 128 0 [] ⌝ }
 {
     let places = terms.len();
     let lines = counts.len();

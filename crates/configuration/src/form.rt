@@ -10,7 +10,8 @@ ghost use lib.Dec.{T, ltb};
 ghost use lib.ListN.{length, take};
 ghost use Rattle.configuration.specs.Weight.{inRange, allInRange, isNegative, noneNegative};
 ghost use Rattle.configuration.specs.Configuration.{line, below, isPolynomial, lineFits, linesFit};
-ghost use Rattle.configuration.specs.Memory.{memoryOf, readLines, laidOut, wellFormed};
+ghost use Rattle.configuration.specs.Memory.{readLines, laidOut, wellFormed};
+ghost use Rattle.configuration.specs.Table.{memoryBefore};
 
 // Whether a weight is from -10^12 to 10^12.
 fn within_limit(weight: i64) -> bool
@@ -74,7 +75,7 @@ fn line_fits(variables: u32, terms: &[u32], weight: i64) -> bool
 
 // Whether the first lines of a table are laid out: every place that none of them uses is zero.
 fn laid_out(lines: usize, terms: &[u32], weights: &[i64], counts: &[u32]) -> bool
-    requires { ⌜ (length (now terms) ≡ 64 * length (now counts)) × (length (now weights) ≡ length (now counts)) × (lines ≤ length (now counts)) ⌝ }
+    requires { let c = length (now counts) in ⌜ (length (now terms) ≡ 64 * c) × (length (now weights) ≡ c) × (lines ≤ c) ⌝ }
     ensures { λ r. ⌜ r ≡ laidOut lines (now (terms .entry)) (now (weights .entry)) (now (counts .entry)) ⌝ }
 {
     let mut i: usize = 0;
@@ -102,7 +103,8 @@ fn laid_out(lines: usize, terms: &[u32], weights: &[i64], counts: &[u32]) -> boo
 
 // Whether the first lines of a table may be held, and stand in order.
 fn lines_fit(variables: u32, lines: usize, terms: &[u32], weights: &[i64], counts: &[u32]) -> bool
-    requires { ⌜ (length (now terms) ≡ 64 * length (now counts)) × (length (now weights) ≡ length (now counts)) × (lines ≤ length (now counts)) × T (laidOut lines (now terms) (now weights) (now counts)) ⌝ }
+    requires { let c = length (now counts) in
+        ⌜ (length (now terms) ≡ 64 * c) × (length (now weights) ≡ c) × (lines ≤ c) × T (laidOut lines (now terms) (now weights) (now counts)) ⌝ }
     ensures { λ r. ⌜ r ≡ linesFit variables (readLines lines (now (terms .entry)) (now (weights .entry)) (now (counts .entry))) ⌝ }
 {
     let mut i: usize = 0;
@@ -163,7 +165,7 @@ pub fn none_negative(weights: &[i64]) -> bool
 
 // Whether lent areas, of any lengths and contents, hold a configuration as document 01 asks.
 pub fn well_formed(head: Head, terms: &[u32], weights: &[i64], counts: &[u32]) -> bool
-    ensures { λ r. ⌜ r ≡ wellFormed (memoryOf head (now (terms .entry)) (now (weights .entry)) (now (counts .entry))) ⌝ }
+    ensures { λ r. ⌜ r ≡ wellFormed (memoryBefore head terms weights counts) ⌝ }
 {
     if terms.len() != 8192 {
         return false;

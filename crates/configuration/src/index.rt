@@ -89,7 +89,7 @@ fn exchange(terms: &mut [u32], a: usize, b: usize)
 // Gives the entries from a place on that have one row another.
 fn relabel(index: &mut [u64], from: usize, row: u64, other: u64)
     requires { ⌜ from ≤ length (now index) ⌝ }
-    ensures { λ _. ⌜ now (index .exit) ≡ take from (now (index .entry)) ++ relabelled row other (drop from (now (index .entry))) ⌝ }
+    ensures { λ _. let is = now (index .entry) in ⌜ now (index .exit) ≡ take from is ++ relabelled row other (drop from is) ⌝ }
 {
     let mut i = from;
     while i < index.len() {
@@ -104,7 +104,8 @@ fn relabel(index: &mut [u64], from: usize, row: u64, other: u64)
 // Puts the lines in turn: each in the row of its place. The operations above end with it.
 pub fn settle(index: [u64; 128], terms: &mut [u32], weights: &mut [i64], counts: &mut [u32])
     requires { ⌜ Once 128 index × (length (now terms) ≡ 8192) × (length (now weights) ≡ 128) × (length (now counts) ≡ 128) ⌝ }
-    ensures { λ _. ⌜ (now (terms .exit) ≡ arranged 64 index (now (terms .entry))) × (now (weights .exit) ≡ arranged 1 index (now (weights .entry))) × (now (counts .exit) ≡ arranged 1 index (now (counts .entry))) ⌝ }
+    ensures { λ _. ⌜ (now (terms .exit) ≡ arranged 64 index (now (terms .entry)))
+        × (now (weights .exit) ≡ arranged 1 index (now (weights .entry))) × (now (counts .exit) ≡ arranged 1 index (now (counts .entry))) ⌝ }
 {
     let mut left = index;
     let mut i: usize = 0;

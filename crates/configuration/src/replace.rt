@@ -20,8 +20,8 @@ ghost use lib.Signed.{mag};
 ghost use lib.ListN.{length, take};
 ghost use Rattle.configuration.specs.Weight.{isZero, allInRange};
 ghost use Rattle.configuration.specs.Configuration.{line, addAll, isPolynomial};
-ghost use Rattle.configuration.specs.Memory.{imageOf, formed, wellFormed};
-ghost use Rattle.configuration.specs.Index.{indexedOf, linesBy, Kept};
+ghost use Rattle.configuration.specs.Memory.{imageOf};
+ghost use Rattle.configuration.specs.Table.{tableAt, tableBefore, tableAfter, tableMemory, tableLines, TableKept, tableFormed, tableWellFormed};
 ghost use Rattle.configuration.specs.Replacement.{Small, Room, Placed, placesIn, shifted, weightsBefore, weightsAfter, countHeld, chosen, verdictOf, replacementOf, replaced};
 
 // The places and the weights of the polynomials of a table of four in another, the weights before and after it is folded in.
@@ -43,10 +43,14 @@ fn weigh(
     new_weights: &[i64],
     new_counts: &[u32],
 ) -> Weighed
-    requires { ⌜ Kept 128 head (now index) (now terms) (now weights) (now counts) × T (wellFormed (indexedOf head (now index) (now terms) (now weights) (now counts))) × Kept 4 new (now «new_index») (now «new_terms») (now «new_weights») (now «new_counts») × T (formed 4 (indexedOf new (now «new_index») (now «new_terms») (now «new_weights») (now «new_counts»))) × Small 45 (linesBy new (now «new_index») (now «new_terms») (now «new_weights») (now «new_counts»)) ⌝ }
-    ensures places { λ r. ⌜ take (new .lines) (r .places) ≡ placesIn (linesBy new (now («new_index» .entry)) (now («new_terms» .entry)) (now («new_weights» .entry)) (now («new_counts» .entry))) (linesBy head (now (index .entry)) (now (terms .entry)) (now (weights .entry)) (now (counts .entry))) ⌝ }
-    ensures first { λ r. ⌜ take (new .lines) (r .before) ≡ weightsBefore (linesBy new (now («new_index» .entry)) (now («new_terms» .entry)) (now («new_weights» .entry)) (now («new_counts» .entry))) (linesBy head (now (index .entry)) (now (terms .entry)) (now (weights .entry)) (now (counts .entry))) ⌝ }
-    ensures last { λ r. ⌜ take (new .lines) (r .after) ≡ weightsAfter (linesBy new (now («new_index» .entry)) (now («new_terms» .entry)) (now («new_weights» .entry)) (now («new_counts» .entry))) (linesBy head (now (index .entry)) (now (terms .entry)) (now (weights .entry)) (now (counts .entry))) ⌝ }
+    requires { let t = tableAt head index terms weights counts in let four = tableAt new «new_index» «new_terms» «new_weights» «new_counts» in
+        ⌜ TableKept 128 t × T (tableWellFormed t) × TableKept 4 four × T (tableFormed 4 four) × Small 45 (tableLines four) ⌝ }
+    ensures places { λ r. let L = tableLines (tableBefore head index terms weights counts) in
+        let N = tableLines (tableBefore new «new_index» «new_terms» «new_weights» «new_counts») in ⌜ take (new .lines) (r .places) ≡ placesIn N L ⌝ }
+    ensures first { λ r. let L = tableLines (tableBefore head index terms weights counts) in
+        let N = tableLines (tableBefore new «new_index» «new_terms» «new_weights» «new_counts») in ⌜ take (new .lines) (r .before) ≡ weightsBefore N L ⌝ }
+    ensures last { λ r. let L = tableLines (tableBefore head index terms weights counts) in
+        let N = tableLines (tableBefore new «new_index» «new_terms» «new_weights» «new_counts») in ⌜ take (new .lines) (r .after) ≡ weightsAfter N L ⌝ }
 {
     let mut places = [0usize; 4];
     let mut before = [0i64; 4];
@@ -131,9 +135,15 @@ fn fold_chosen(
     after: &[i64],
     vanishing: bool,
 ) -> Head
-    requires { ⌜ Kept 128 head (now index) (now terms) (now weights) (now counts) × T (formed 128 (indexedOf head (now index) (now terms) (now weights) (now counts))) × Kept 4 new (now «new_index») (now «new_terms») (now «new_weights») (now «new_counts») × T (formed 4 (indexedOf new (now «new_index») (now «new_terms») (now «new_weights») (now «new_counts»))) × (new .variables ≡ head .variables) × (length (now places) ≡ new .lines) × (length (now before) ≡ new .lines) × (length (now after) ≡ new .lines) × Placed vanishing (now after) (linesBy new (now «new_index») (now «new_terms») (now «new_weights») (now «new_counts»)) (now places) (now before) (linesBy head (now index) (now terms) (now weights) (now counts)) × Room (chosen vanishing (now after) (linesBy new (now «new_index») (now «new_terms») (now «new_weights») (now «new_counts»))) (linesBy head (now index) (now terms) (now weights) (now counts)) ⌝ }
-    ensures table { λ r. ⌜ indexedOf r (now (index .exit)) (now (terms .exit)) (now (weights .exit)) (now (counts .exit)) ≡ imageOf 128 (head .variables) (addAll (chosen vanishing (now (after .entry)) (linesBy new (now («new_index» .entry)) (now («new_terms» .entry)) (now («new_weights» .entry)) (now («new_counts» .entry)))) (linesBy head (now (index .entry)) (now (terms .entry)) (now (weights .entry)) (now (counts .entry)))) ⌝ }
-    ensures kept { λ r. ⌜ Kept 128 r (now (index .exit)) (now (terms .exit)) (now (weights .exit)) (now (counts .exit)) ⌝ }
+    requires { let t = tableAt head index terms weights counts in let L = tableLines t in
+        let four = tableAt new «new_index» «new_terms» «new_weights» «new_counts» in let N = tableLines four in
+        ⌜ TableKept 128 t × T (tableFormed 128 t) × TableKept 4 four × T (tableFormed 4 four) × (new .variables ≡ head .variables)
+        × (length (now places) ≡ new .lines) × (length (now before) ≡ new .lines) × (length (now after) ≡ new .lines)
+        × Placed vanishing (now after) N (now places) (now before) L × Room (chosen vanishing (now after) N) L ⌝ }
+    ensures table { λ r. let L = tableLines (tableBefore head index terms weights counts) in
+        let N = tableLines (tableBefore new «new_index» «new_terms» «new_weights» «new_counts») in
+        ⌜ tableMemory (tableAfter r index terms weights counts) ≡ imageOf 128 (head .variables) (addAll (chosen vanishing (now (after .entry)) N) L) ⌝ }
+    ensures kept { λ r. ⌜ TableKept 128 (tableAfter r index terms weights counts) ⌝ }
 {
     let mut held = head;
     let lines = new.lines as usize;
@@ -165,7 +175,8 @@ fn fold_chosen(
 // Judges the lines and the weights that folding in leaves, of so many lines and the weights before and after: lines first.
 fn judge(held: usize, before: &[i64], after: &[i64]) -> Verdict
     requires { ⌜ held ≤ 128 ⌝ }
-    ensures { λ r. ⌜ r ≡ verdictOf (leb (held + countHeld (now (after .entry))) (128 + countHeld (now (before .entry)))) (allInRange (now (after .entry))) ⌝ }
+    ensures { λ r. let us = now (before .entry) in let ws = now (after .entry) in
+        ⌜ r ≡ verdictOf (leb (held + countHeld ws) (128 + countHeld us)) (allInRange ws) ⌝ }
 {
     let many = 128 + held_weights(before) < held + held_weights(after);
     let small = weights_fit(after.len(), after);
@@ -194,9 +205,15 @@ fn fold_table(
     before: &[i64],
     after: &[i64],
 ) -> Head
-    requires { ⌜ Kept 128 head (now index) (now terms) (now weights) (now counts) × T (formed 128 (indexedOf head (now index) (now terms) (now weights) (now counts))) × Kept 4 new (now «new_index») (now «new_terms») (now «new_weights») (now «new_counts») × T (formed 4 (indexedOf new (now «new_index») (now «new_terms») (now «new_weights») (now «new_counts»))) × (new .variables ≡ head .variables) × (take (new .lines) places ≡ placesIn (linesBy new (now «new_index») (now «new_terms») (now «new_weights») (now «new_counts»)) (linesBy head (now index) (now terms) (now weights) (now counts))) × (now before ≡ weightsBefore (linesBy new (now «new_index») (now «new_terms») (now «new_weights») (now «new_counts»)) (linesBy head (now index) (now terms) (now weights) (now counts))) × (now after ≡ weightsAfter (linesBy new (now «new_index») (now «new_terms») (now «new_weights») (now «new_counts»)) (linesBy head (now index) (now terms) (now weights) (now counts))) × T (allInRange (now after)) × (length (addAll (linesBy new (now «new_index») (now «new_terms») (now «new_weights») (now «new_counts»)) (linesBy head (now index) (now terms) (now weights) (now counts))) ≤ 128) ⌝ }
-    ensures table { λ r. ⌜ indexedOf r (now (index .exit)) (now (terms .exit)) (now (weights .exit)) (now (counts .exit)) ≡ imageOf 128 (head .variables) (addAll (linesBy new (now («new_index» .entry)) (now («new_terms» .entry)) (now («new_weights» .entry)) (now («new_counts» .entry))) (linesBy head (now (index .entry)) (now (terms .entry)) (now (weights .entry)) (now (counts .entry)))) ⌝ }
-    ensures kept { λ r. ⌜ Kept 128 r (now (index .exit)) (now (terms .exit)) (now (weights .exit)) (now (counts .exit)) ⌝ }
+    requires { let t = tableAt head index terms weights counts in let L = tableLines t in
+        let four = tableAt new «new_index» «new_terms» «new_weights» «new_counts» in let N = tableLines four in
+        ⌜ TableKept 128 t × T (tableFormed 128 t) × TableKept 4 four × T (tableFormed 4 four) × (new .variables ≡ head .variables)
+        × (take (new .lines) places ≡ placesIn N L) × (now before ≡ weightsBefore N L) × (now after ≡ weightsAfter N L)
+        × T (allInRange (now after)) × (length (addAll N L) ≤ 128) ⌝ }
+    ensures table { λ r. let L = tableLines (tableBefore head index terms weights counts) in
+        let N = tableLines (tableBefore new «new_index» «new_terms» «new_weights» «new_counts») in
+        ⌜ tableMemory (tableAfter r index terms weights counts) ≡ imageOf 128 (head .variables) (addAll N L) ⌝ }
+    ensures kept { λ r. ⌜ TableKept 128 (tableAfter r index terms weights counts) ⌝ }
 {
     let lines = after.len();
     let fewer = fold_chosen(
@@ -248,9 +265,13 @@ pub fn replace(
     new_weights: &[i64],
     new_counts: &[u32],
 ) -> Replaced
-    requires { ⌜ Kept 128 head (now index) (now terms) (now weights) (now counts) × T (wellFormed (indexedOf head (now index) (now terms) (now weights) (now counts))) × Kept 4 new (now «new_index») (now «new_terms») (now «new_weights») (now «new_counts») × T (formed 4 (indexedOf new (now «new_index») (now «new_terms») (now «new_weights») (now «new_counts»))) × (new .variables ≡ head .variables) × Small 45 (linesBy new (now «new_index») (now «new_terms») (now «new_weights») (now «new_counts»)) ⌝ }
-    ensures table { λ r. ⌜ replacementOf (indexedOf (r .head) (now (index .exit)) (now (terms .exit)) (now (weights .exit)) (now (counts .exit))) (r .verdict) ≡ replaced (linesBy new (now («new_index» .entry)) (now («new_terms» .entry)) (now («new_weights» .entry)) (now («new_counts» .entry))) (indexedOf head (now (index .entry)) (now (terms .entry)) (now (weights .entry)) (now (counts .entry))) ⌝ }
-    ensures kept { λ r. ⌜ Kept 128 (r .head) (now (index .exit)) (now (terms .exit)) (now (weights .exit)) (now (counts .exit)) ⌝ }
+    requires { let t = tableAt head index terms weights counts in let four = tableAt new «new_index» «new_terms» «new_weights» «new_counts» in
+        ⌜ TableKept 128 t × T (tableWellFormed t) × TableKept 4 four × T (tableFormed 4 four)
+        × (new .variables ≡ head .variables) × Small 45 (tableLines four) ⌝ }
+    ensures table { λ r. let m = tableMemory (tableBefore head index terms weights counts) in
+        let N = tableLines (tableBefore new «new_index» «new_terms» «new_weights» «new_counts») in
+        ⌜ replacementOf (tableMemory (tableAfter (r .head) index terms weights counts)) (r .verdict) ≡ replaced N m ⌝ }
+    ensures kept { λ r. ⌜ TableKept 128 (tableAfter (r .head) index terms weights counts) ⌝ }
 {
     if new.lines == 0 {
         return Replaced {
@@ -310,9 +331,11 @@ pub fn add(
     f: &[u32],
     amount: i64,
 ) -> Replaced
-    requires { ⌜ Kept 128 head (now index) (now terms) (now weights) (now counts) × T (wellFormed (indexedOf head (now index) (now terms) (now weights) (now counts))) × T (isPolynomial (head .variables) (now f)) × (mag amount < 2 ^ 42) × T (not (isZero amount)) ⌝ }
-    ensures table { λ r. ⌜ replacementOf (indexedOf (r .head) (now (index .exit)) (now (terms .exit)) (now (weights .exit)) (now (counts .exit))) (r .verdict) ≡ replaced (line (now (f .entry)) amount ∷ []) (indexedOf head (now (index .entry)) (now (terms .entry)) (now (weights .entry)) (now (counts .entry))) ⌝ }
-    ensures kept { λ r. ⌜ Kept 128 (r .head) (now (index .exit)) (now (terms .exit)) (now (weights .exit)) (now (counts .exit)) ⌝ }
+    requires { let t = tableAt head index terms weights counts in
+        ⌜ TableKept 128 t × T (tableWellFormed t) × T (isPolynomial (head .variables) (now f)) × (mag amount < 2 ^ 42) × T (not (isZero amount)) ⌝ }
+    ensures table { λ r. let m = tableMemory (tableBefore head index terms weights counts) in
+        ⌜ replacementOf (tableMemory (tableAfter (r .head) index terms weights counts)) (r .verdict) ≡ replaced (line (now (f .entry)) amount ∷ []) m ⌝ }
+    ensures kept { λ r. ⌜ TableKept 128 (tableAfter (r .head) index terms weights counts) ⌝ }
 {
     if f.len() == 0 {
         return Replaced {

@@ -20,8 +20,8 @@ ghost use lib.Signed.{mag};
 ghost use lib.ListN.{length, getD, take, drop};
 ghost use Rattle.polynomial.specs.Polynomial.{orderOf};
 ghost use Rattle.configuration.specs.Configuration.{line, some, weight, add, isPolynomial, placeOf, isHeld};
-ghost use Rattle.configuration.specs.Memory.{imageOf, formed};
-ghost use Rattle.configuration.specs.Index.{rowOf, keyIn, indexedOf, linesBy, firstKey, Kept};
+ghost use Rattle.configuration.specs.Memory.{imageOf};
+ghost use Rattle.configuration.specs.Index.{rowOf, keyIn, firstKey};
 ghost use Rattle.configuration.specs.Table.{tableAt, tableBefore, tableAfter, tableCapacity, tableMemory, tableLines, TableKept, tableFormed};
 
 // Where a polynomial stands, or would stand, among the lines, and whether it is held.
@@ -42,9 +42,10 @@ pub fn row(terms: &[u32], i: usize, count: usize) -> &[u32]
 
 // Where a polynomial, whose first term has the given key, stands beside the line of an entry. The keys are compared first.
 fn order_at(entry: u64, key: u64, terms: &[u32], counts: &[u32], f: &[u32]) -> Ordering
-    requires { ⌜ T (some (now f)) × (key ≡ firstKey (now f)) × (rowOf entry < length (now counts)) × (getD (now counts) (rowOf entry) 0 ≤ 64) × (length (now terms) ≡ 64 * length (now counts))
-        × T (some (take (getD (now counts) (rowOf entry) 0) (drop (64 * rowOf entry) (now terms)))) × (keyIn entry ≡ firstKey (take (getD (now counts) (rowOf entry) 0) (drop (64 * rowOf entry) (now terms)))) ⌝ }
-    ensures { λ r. ⌜ r ≡ orderOf (now (f .entry)) (take (getD (now (counts .entry)) (rowOf entry) 0) (drop (64 * rowOf entry) (now (terms .entry)))) ⌝ }
+    requires { let p = now f in let c = length (now counts) in
+        let i = rowOf entry in let k = getD (now counts) i 0 in let q = take k (drop (64 * i) (now terms)) in
+        ⌜ T (some p) × (key ≡ firstKey p) × (i < c) × (k ≤ 64) × (length (now terms) ≡ 64 * c) × T (some q) × (keyIn entry ≡ firstKey q) ⌝ }
+    ensures { λ r. let i = rowOf entry in ⌜ r ≡ orderOf (now (f .entry)) (take (getD (now (counts .entry)) i 0) (drop (64 * i) (now (terms .entry)))) ⌝ }
 {
     if entry / 128 < key {
         return Ordering::Earlier;
@@ -66,8 +67,10 @@ fn find(
     f: &[u32],
     first: u64,
 ) -> Place
-    requires { ⌜ Kept (length (now counts)) head (now index) (now terms) (now weights) (now counts) × T (formed (length (now counts)) (indexedOf head (now index) (now terms) (now weights) (now counts))) × T (some (now f)) × (first ≡ firstKey (now f)) ⌝ }
-    ensures { λ r. ⌜ (r .at ≡ placeOf (now (f .entry)) (linesBy head (now (index .entry)) (now (terms .entry)) (now (weights .entry)) (now (counts .entry)))) × (r .held ≡ isHeld (now (f .entry)) (linesBy head (now (index .entry)) (now (terms .entry)) (now (weights .entry)) (now (counts .entry)))) ⌝ }
+    requires { let t = tableAt head index terms weights counts in let c = tableCapacity t in
+        ⌜ TableKept c t × T (tableFormed c t) × T (some (now f)) × (first ≡ firstKey (now f)) ⌝ }
+    ensures { λ r. let L = tableLines (tableBefore head index terms weights counts) in let p = now (f .entry) in
+        ⌜ (r .at ≡ placeOf p L) × (r .held ≡ isHeld p L) ⌝ }
 {
     if head.lines == 0 {
         return Place { at: 0, held: false };
@@ -117,8 +120,10 @@ pub fn look_up(
     f: &[u32],
     first: u64,
 ) -> Known
-    requires { ⌜ Kept (length (now counts)) head (now index) (now terms) (now weights) (now counts) × T (formed (length (now counts)) (indexedOf head (now index) (now terms) (now weights) (now counts))) × T (some (now f)) × (first ≡ firstKey (now f)) ⌝ }
-    ensures { λ r. ⌜ (r .at ≡ placeOf (now (f .entry)) (linesBy head (now (index .entry)) (now (terms .entry)) (now (weights .entry)) (now (counts .entry)))) × (r .weight ≡ weight (linesBy head (now (index .entry)) (now (terms .entry)) (now (weights .entry)) (now (counts .entry))) (now (f .entry))) ⌝ }
+    requires { let t = tableAt head index terms weights counts in let c = tableCapacity t in
+        ⌜ TableKept c t × T (tableFormed c t) × T (some (now f)) × (first ≡ firstKey (now f)) ⌝ }
+    ensures { λ r. let L = tableLines (tableBefore head index terms weights counts) in let p = now (f .entry) in
+        ⌜ (r .at ≡ placeOf p L) × (r .weight ≡ weight L p) ⌝ }
 {
     let place = find(head, index, terms, weights, counts, f, first);
     let at = place.at;
@@ -139,8 +144,8 @@ pub fn weight_of(
     counts: &[u32],
     f: &[u32],
 ) -> i64
-    requires { ⌜ Kept (length (now counts)) head (now index) (now terms) (now weights) (now counts) × T (formed (length (now counts)) (indexedOf head (now index) (now terms) (now weights) (now counts))) × T (some (now f)) ⌝ }
-    ensures { λ r. ⌜ r ≡ weight (linesBy head (now (index .entry)) (now (terms .entry)) (now (weights .entry)) (now (counts .entry))) (now (f .entry)) ⌝ }
+    requires { let t = tableAt head index terms weights counts in let c = tableCapacity t in ⌜ TableKept c t × T (tableFormed c t) × T (some (now f)) ⌝ }
+    ensures { λ r. ⌜ r ≡ weight (tableLines (tableBefore head index terms weights counts)) (now (f .entry)) ⌝ }
 {
     let first = key(f[0]);
     let known = look_up(head, index, terms, weights, counts, f, first);
@@ -159,12 +164,12 @@ fn insert_line(
     first: u64,
     weight: i64,
 ) -> Head
-    requires { ⌜ Kept (length (now counts)) head (now index) (now terms) (now weights) (now counts) × T (formed (length (now counts)) (indexedOf head (now index) (now terms) (now weights) (now counts))) × (at ≤ head .lines) × (head .lines < length (now counts)) × T (some (now f)) × (length (now f) ≤ 64) × (first ≡ firstKey (now f)) ⌝ }
-    ensures table { λ r. ⌜ indexedOf r (now (index .exit)) (now (terms .exit)) (now (weights .exit)) (now (counts .exit))
-        ≡ imageOf (length (now (counts .entry))) (head .variables)
-        (take at (linesBy head (now (index .entry)) (now (terms .entry)) (now (weights .entry)) (now (counts .entry)))
-        ++ line (now (f .entry)) weight ∷ drop at (linesBy head (now (index .entry)) (now (terms .entry)) (now (weights .entry)) (now (counts .entry)))) ⌝ }
-    ensures kept { λ r. ⌜ Kept (length (now (counts .entry))) r (now (index .exit)) (now (terms .exit)) (now (weights .exit)) (now (counts .exit)) ⌝ }
+    requires { let t = tableAt head index terms weights counts in let c = tableCapacity t in let p = now f in
+        ⌜ TableKept c t × T (tableFormed c t) × (at ≤ head .lines) × (head .lines < c) × T (some p) × (length p ≤ 64) × (first ≡ firstKey p) ⌝ }
+    ensures table { λ r. let t = tableBefore head index terms weights counts in let L = tableLines t in
+        ⌜ tableMemory (tableAfter r index terms weights counts)
+        ≡ imageOf (tableCapacity t) (head .variables) (take at L ++ line (now (f .entry)) weight ∷ drop at L) ⌝ }
+    ensures kept { λ r. ⌜ TableKept (tableCapacity (tableBefore head index terms weights counts)) (tableAfter r index terms weights counts) ⌝ }
 {
     let lines = head.lines as usize;
     let here = row_at(index, lines);
@@ -187,12 +192,10 @@ fn remove_line(
     counts: &mut [u32],
     at: usize,
 ) -> Head
-    requires { ⌜ Kept (length (now counts)) head (now index) (now terms) (now weights) (now counts) × T (formed (length (now counts)) (indexedOf head (now index) (now terms) (now weights) (now counts))) × (at < head .lines) ⌝ }
-    ensures table { λ r. ⌜ indexedOf r (now (index .exit)) (now (terms .exit)) (now (weights .exit)) (now (counts .exit))
-        ≡ imageOf (length (now (counts .entry))) (head .variables)
-        (take at (linesBy head (now (index .entry)) (now (terms .entry)) (now (weights .entry)) (now (counts .entry)))
-        ++ drop (suc at) (linesBy head (now (index .entry)) (now (terms .entry)) (now (weights .entry)) (now (counts .entry)))) ⌝ }
-    ensures kept { λ r. ⌜ Kept (length (now (counts .entry))) r (now (index .exit)) (now (terms .exit)) (now (weights .exit)) (now (counts .exit)) ⌝ }
+    requires { let t = tableAt head index terms weights counts in let c = tableCapacity t in ⌜ TableKept c t × T (tableFormed c t) × (at < head .lines) ⌝ }
+    ensures table { λ r. let t = tableBefore head index terms weights counts in let L = tableLines t in
+        ⌜ tableMemory (tableAfter r index terms weights counts) ≡ imageOf (tableCapacity t) (head .variables) (take at L ++ drop (suc at) L) ⌝ }
+    ensures kept { λ r. ⌜ TableKept (tableCapacity (tableBefore head index terms weights counts)) (tableAfter r index terms weights counts) ⌝ }
 {
     let lines = head.lines as usize;
     let here = row_at(index, at);
@@ -222,9 +225,9 @@ pub fn fold_at(
     first: u64,
     amount: i64,
 ) -> Head
-    requires { let t = tableAt head index terms weights counts in let L = tableLines t in let p = now f in
-        ⌜ TableKept (tableCapacity t) t × T (tableFormed (tableCapacity t) t) × T (isPolynomial (head .variables) p) × T (some p) × (at ≡ placeOf p L)
-        × (old ≡ weight L p) × (mag (weight L p +ℤ amount) < 2 ^ 63) × (length (add p amount L) ≤ tableCapacity t) × (first ≡ firstKey p) ⌝ }
+    requires { let t = tableAt head index terms weights counts in let c = tableCapacity t in let L = tableLines t in let p = now f in
+        ⌜ TableKept c t × T (tableFormed c t) × T (isPolynomial (head .variables) p) × T (some p) × (at ≡ placeOf p L) × (old ≡ weight L p)
+        × (mag (weight L p +ℤ amount) < 2 ^ 63) × (length (add p amount L) ≤ c) × (first ≡ firstKey p) ⌝ }
     ensures table { λ r. let t = tableBefore head index terms weights counts in
         ⌜ tableMemory (tableAfter r index terms weights counts) ≡ imageOf (tableCapacity t) (head .variables) (add (now (f .entry)) amount (tableLines t)) ⌝ }
     ensures kept { λ r. ⌜ TableKept (tableCapacity (tableBefore head index terms weights counts)) (tableAfter r index terms weights counts) ⌝ }
@@ -254,11 +257,12 @@ pub fn fold_in(
     f: &[u32],
     amount: i64,
 ) -> Head
-    requires { ⌜ Kept (length (now counts)) head (now index) (now terms) (now weights) (now counts) × T (formed (length (now counts)) (indexedOf head (now index) (now terms) (now weights) (now counts))) × T (isPolynomial (head .variables) (now f)) × (mag (weight (linesBy head (now index) (now terms) (now weights) (now counts)) (now f) +ℤ amount) < 2 ^ 63) × (length (add (now f) amount (linesBy head (now index) (now terms) (now weights) (now counts))) ≤ length (now counts)) ⌝ }
-    ensures table { λ r. ⌜ indexedOf r (now (index .exit)) (now (terms .exit)) (now (weights .exit)) (now (counts .exit))
-        ≡ imageOf (length (now (counts .entry))) (head .variables)
-        (add (now (f .entry)) amount (linesBy head (now (index .entry)) (now (terms .entry)) (now (weights .entry)) (now (counts .entry)))) ⌝ }
-    ensures kept { λ r. ⌜ Kept (length (now (counts .entry))) r (now (index .exit)) (now (terms .exit)) (now (weights .exit)) (now (counts .exit)) ⌝ }
+    requires { let t = tableAt head index terms weights counts in let c = tableCapacity t in let L = tableLines t in let p = now f in
+        ⌜ TableKept c t × T (tableFormed c t) × T (isPolynomial (head .variables) p)
+        × (mag (weight L p +ℤ amount) < 2 ^ 63) × (length (add p amount L) ≤ c) ⌝ }
+    ensures table { λ r. let t = tableBefore head index terms weights counts in
+        ⌜ tableMemory (tableAfter r index terms weights counts) ≡ imageOf (tableCapacity t) (head .variables) (add (now (f .entry)) amount (tableLines t)) ⌝ }
+    ensures kept { λ r. ⌜ TableKept (tableCapacity (tableBefore head index terms weights counts)) (tableAfter r index terms weights counts) ⌝ }
 {
     if f.len() == 0 {
         return head;
