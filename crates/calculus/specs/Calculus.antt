@@ -60,21 +60,29 @@ unfoldable pub allShort : List Line → Bool
 allShort [] = true
 allShort (line f w ∷ L) = leb (length f) 64 && allShort L
 
--- ---- one step of a configuration
--- the tests of the mode, in their order, in front of what follows: a negative line, the amount, the weight that is taken away
-abbrev pub modeTests : Rule → Mode → List ℕ → List ℕ → ℤ → List Line → Step → Step
-modeTests r m f g w L s =
-    unless (not (isPlain m && anyNegative L)) 12
-    (unless (amountFits m w) 8
-    (unless (not (isPlain m) || there L (premises r f g w)) 9
-    s))
+-- ---- tests in document 01's order, each the number of its refusal and whether it is passed
+pub data Test : Type 0 where
+  test : ℕ → Bool → Test
 
--- the changes, where no result has more than 64 terms and all is within the limits
+-- refused for the first test that is not passed; else what follows
+abbrev pub passing : List Test → Step → Step
+passing [] s = s
+passing (test n b ∷ ts) s = unless b n (passing ts s)
+
+-- ---- one step of a configuration
+-- "12 plain mode and a negative line; 8; 9 plain mode and the weight not there"
+abbrev pub modeTests : Rule → Mode → List ℕ → List ℕ → ℤ → List Line → List Test
+modeTests r m f g w L =
+    test 12 (not (isPlain m && anyNegative L)) ∷
+    test 8 (amountFits m w) ∷
+    test 9 (not (isPlain m) || there L (premises r f g w)) ∷ []
+
+-- "7 a result over 64 terms", then the limits, 10 and 11, of the lines with the changes
 abbrev pub changed : Rule → List ℕ → List ℕ → ℤ → List Line → Step
 changed r f g w L = unless (allShort (conclusions r f g w)) 7 (within (addAll (changes r f g w) L))
 
 unfoldable pub step : Rule → Mode → List ℕ → List ℕ → ℤ → List Line → Step
-step r m f g w L = modeTests r m f g w L (changed r f g w L)
+step r m f g w L = passing (modeTests r m f g w L) (changed r f g w L)
 
 -- what code finds against a step, in front of what follows if nothing is found
 abbrev pub objected : Objection → Step → Step
@@ -108,20 +116,20 @@ abbrev pub leaves : Memory → Step → Left
 leaves m (taken L) = record { memory = imageOf 128 (m .variables) L; told = done }
 leaves m (refused n) = record { memory = m; told = refusedAt 0 n }
 
--- the tests of the operands of a step that is taken directly, in their order, in front of what follows: lengths, variables, order
-abbrev pub operandTests : ℕ → List ℕ → List ℕ → Step → Step
-operandTests n f g s =
-    unless (leb (length f) 64 && leb (length g) 64) 7
-    (unless (below n f && below n g) 6
-    (unless (sorted before f && sorted before g) 16
-    s))
+-- "1; 2 lent standing not well formed"
+abbrev pub memoryTests : Memory → List Test
+memoryTests m = test 1 (sized 128 m) ∷ test 2 (wellFormed m) ∷ []
 
--- the tests of a step that is taken directly, then the step
+-- "7 f or g longer than 64; 6; 16 terms of f or g not in strict written order"
+abbrev pub operandTests : ℕ → List ℕ → List ℕ → List Test
+operandTests n f g =
+    test 7 (leb (length f) 64 && leb (length g) 64) ∷
+    test 6 (below n f && below n g) ∷
+    test 16 (sorted before f && sorted before g) ∷ []
+
+-- a step that is taken directly: these tests, then the step
 unfoldable pub judged : Rule → Mode → List ℕ → List ℕ → ℤ → Memory → Step
-judged r d f g w m =
-    unless (sized 128 m) 1
-    (unless (wellFormed m) 2
-    (operandTests (m .variables) f g (step r d f g w (linesOf m))))
+judged r d f g w m = passing (memoryTests m ++ operandTests (m .variables) f g) (step r d f g w (linesOf m))
 
 abbrev pub directStep : Rule → Mode → List ℕ → List ℕ → ℤ → Memory → Left
 directStep r d f g w m = leaves m (judged r d f g w m)

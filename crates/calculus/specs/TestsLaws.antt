@@ -9,9 +9,9 @@ use native.Mathlib.Omega.{arith}
 use lib.IntN.{ℤ}
 use Rattle.configuration.specs.Configuration.{Line, addAll}
 use Rattle.configuration.specs.Memory.{Memory, linesOf}
-use Rattle.configuration.specs.Replacement.{Step, taken, refused, unless, within}
-use Rattle.calculus.specs.Calculus.{changes, step, judged}
-use Rattle.calculus.specs.Tests.{Test, test, AllPassed, FirstFailed, stepTests, directTests}
+use Rattle.configuration.specs.Replacement.{Step, taken, refused, within}
+use Rattle.calculus.specs.Calculus.{changes, Test, test, passing, step, judged}
+use Rattle.calculus.specs.Tests.{AllPassed, FirstFailed, stepTests, directTests}
 use Rattle.calculus.specs.declared.Rule.{Rule}
 use Rattle.calculus.specs.declared.Mode.{Mode}
 
@@ -23,17 +23,13 @@ pub record Decided (ts : List Test) (M : List Line) (s : Step) : Type 0 where
   pub if-refused : (n : ℕ) → s ≡ refused n → FirstFailed n ts
 
 -- tests one after the other decide
-abbrev judgedBy : List Test → List Line → Step
-judgedBy [] M = taken M
-judgedBy (test n b ∷ ts) M = unless b n (judgedBy ts M)
-
 differ : {M : List Line} {n : ℕ} → taken M ≡ refused n → ⊥
 differ e = let z : _≡_ {A = ℕ} 0 1 = cc in let x : ⊥ = omega arith in x
 
-decided : (ts : List Test) (M : List Line) → Decided ts M (judgedBy ts M)
+decided : (ts : List Test) (M : List Line) → Decided ts M (passing ts (taken M))
 decided [] M = record { if-passed = λ a. refl; if-failed = λ n h. absurd h; if-taken = λ N e. (tt, cc); if-refused = λ n e. absurd (differ e) }
 decided (test k true ∷ ts) M =
-    let d : Decided ts M (judgedBy ts M) = decided ts M in
+    let d : Decided ts M (passing ts (taken M)) = decided ts M in
     record {
       if-passed = λ a. d .if-passed (a .1);
       if-failed = λ n h. failed n h d;
@@ -41,7 +37,7 @@ decided (test k true ∷ ts) M =
       if-refused = λ n e. inr (refl, d .if-refused n e);
     }
   where
-    failed : (n : ℕ) → FirstFailed n (test k true ∷ ts) → Decided ts M (judgedBy ts M) → judgedBy ts M ≡ refused n
+    failed : (n : ℕ) → FirstFailed n (test k true ∷ ts) → Decided ts M (passing ts (taken M)) → passing ts (taken M) ≡ refused n
     failed n (inl h) d = absurd (true≢false (h .0))
     failed n (inr h) d = d .if-failed n (h .1)
 decided (test k false ∷ ts) M = record {

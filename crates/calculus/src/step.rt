@@ -29,7 +29,7 @@ ghost use Rattle.configuration.specs.Weight.{inRange};
 ghost use Rattle.configuration.specs.Configuration.{some, weight, isPolynomial};
 ghost use Rattle.configuration.specs.Table.{tableAt, tableBefore, tableAfter, memoryBefore, memoryAfter, tableCapacity, tableMemory, tableLines, TableKept, tableFormed, tableWellFormed};
 ghost use Rattle.configuration.specs.Replacement.{Step};
-ghost use Rattle.calculus.specs.Calculus.{premises, there, modeTests, changed, step as stepOf, operandTests, toldOf, toldBy, leaves, leftOf, objected, directStep};
+ghost use Rattle.calculus.specs.Calculus.{premises, there, passing, modeTests, changed, step as stepOf, operandTests, toldOf, toldBy, leaves, leftOf, objected, directStep};
 
 // Whether as much as is asked of a polynomial is held. The polynomial 0 is never asked for.
 fn is_held(
@@ -102,7 +102,7 @@ fn object(
 ) -> Objection
     requires { let t = tableAt head index terms weights counts in ⌜ TableKept (tableCapacity t) t × T (tableFormed (tableCapacity t) t) ⌝ }
     ensures { λ r. let L = tableLines (tableBefore head index terms weights counts) in
-        ⌜ ((s : Step) → objected r s ≡ modeTests rule mode (now (f .entry)) (now (g .entry)) amount L s) ⌝ }
+        ⌜ ((s : Step) → objected r s ≡ passing (modeTests rule mode (now (f .entry)) (now (g .entry)) amount L) s) ⌝ }
 {
     if let Mode::Plain = mode {
         if !none_negative(weights) {
@@ -122,7 +122,7 @@ fn object(
 
 // The tests of the operands of a step that is taken directly: their lengths, their variables, their order.
 fn misfit(variables: u32, f: &[u32], g: &[u32]) -> Objection
-    ensures { λ r. ⌜ ((s : Step) → objected r s ≡ operandTests variables (now (f .entry)) (now (g .entry)) s) ⌝ }
+    ensures { λ r. ⌜ ((s : Step) → objected r s ≡ passing (operandTests variables (now (f .entry)) (now (g .entry))) s) ⌝ }
 {
     if 64 < f.len() {
         return Objection::Found(Reason::TooManyTerms);

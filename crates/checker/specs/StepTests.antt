@@ -8,15 +8,14 @@ use lib.IntN.{ℤ}
 use Rattle.configuration.specs.Configuration.{addAll}
 use Rattle.configuration.specs.Memory.{linesOf, imageOf}
 use Rattle.configuration.specs.Replacement.{Step, taken, refused}
-use Rattle.calculus.specs.Calculus.{Told, done, refusedAt, changes, leaves, judged}
-use Rattle.calculus.specs.Tests.{Test, AllPassed, FirstFailed, directTests}
+use Rattle.calculus.specs.Calculus.{Test, Told, done, refusedAt, changes, leaves, judged}
+use Rattle.calculus.specs.Tests.{AllPassed, FirstFailed, directTests}
 use Rattle.calculus.specs.TestsLaws.{Decided, direct-decided}
 use Rattle.calculus.specs.declared.Rule.{Rule}
 use Rattle.calculus.specs.declared.Mode.{Mode}
 use Rattle.checker.specs.Records.{Memory, runsOf, recordsOf}
 use Rattle.checker.specs.RecordsLaws.{records-runs}
 use Rattle.checker.specs.Checker.{Left, stepOn, stepIn}
-use Rattle.calculus.specs.Calculus as C
 
 module _ (r : Rule) (d : Mode) (f g : List ℕ) (w : ℤ) (m : Memory) where
   abbrev tests : List Test
