@@ -4,10 +4,10 @@ ghost use mathlib.Core.List.{_++_};
 ghost use Prim.Native.Nat.{_+_, _≤_};
 ghost use lib.ListN.{length, take, drop};
 
-// Writes a run of numbers into an area from a place on. It is for this crate and those above it, whose areas have room.
+// Writes a run of numbers into an area from a place on. It is for this crate, `configuration` and `derivation`, whose areas have room.
 pub fn write(area: &mut [u32], at: usize, run: &[u32])
     requires { ⌜ at + length (now run) ≤ length (now area) ⌝ }
-    ensures { λ _. ⌜ now (area .exit) ≡ take at (now (area .entry)) ++ (now (run .entry) ++ drop (at + length (now (run .entry))) (now (area .entry))) ⌝ }
+    ensures { λ _. let l = now (area .entry) in let s = now (run .entry) in ⌜ now (area .exit) ≡ take at l ++ (s ++ drop (at + length s) l) ⌝ }
 {
     let mut i: usize = 0;
     while i < run.len() {

@@ -23,7 +23,7 @@ fn double(out: &mut [u32], count: usize, joined: u32)
     }
 }
 
-// Writes every subset of a mask, and answers how many there are.
+// Writes every subset of a mask, and answers how many there are. It is for this crate, whose areas have room.
 pub fn subsets(mask: u32, out: &mut [u32]) -> usize
     requires { ⌜ 2 ^ degreeOf mask ≤ length (now out) ⌝ }
     ensures count { λ r. ⌜ r ≡ length (subsetsOf 32 mask) ⌝ }
@@ -42,7 +42,7 @@ pub fn subsets(mask: u32, out: &mut [u32]) -> usize
     count
 }
 
-// The polynomial of a clause of at most six plain literals, none of whose variables stands both ways.
+// The polynomial of a clause of at most six plain literals, none of whose variables stands both ways. It is for `Polynomial::clause`.
 pub fn short_clause(plain: u32, negated: u32) -> Outcome
     requires { ⌜ degreeOf plain ≤ 6 ⌝ }
     ensures { λ r. ⌜ r ≡ outcomeOf (clauseOf plain negated) ⌝ }

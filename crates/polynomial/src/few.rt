@@ -186,8 +186,9 @@ fn product_by(
     table: &mut [u8],
     out: &mut [u32],
 ) -> usize
-    requires { ⌜ (length (now f) ≤ 64) × (length (now g) ≤ 64) × (fixed ≡ commonOf (now f) (now g)) × (mask ≡ varyingOf (now f) (now g)) × (degreeOf mask ≤ 12)
-        × (2 ^ degreeOf mask ≤ length (now masks)) × (2 ^ degreeOf mask ≤ length (now table)) × (now table ≡ replicate (length (now table)) 0) × (length (now out) ≡ 64) ⌝ }
+    requires { let p = now f in let q = now g in let n = 2 ^ degreeOf mask in
+        ⌜ (length p ≤ 64) × (length q ≤ 64) × (fixed ≡ commonOf p q) × (mask ≡ varyingOf p q) × (degreeOf mask ≤ 12)
+        × (n ≤ length (now masks)) × (n ≤ length (now table)) × (now table ≡ replicate (length (now table)) 0) × (length (now out) ≡ 64) ⌝ }
     ensures size { λ r. ⌜ r ≡ length (productOf (now (f .entry)) (now (g .entry))) ⌝ }
     ensures product { λ _. ⌜ now (out .exit) ≡ placed (productOf (now (f .entry)) (now (g .entry))) (now (out .entry)) ⌝ }
 {
@@ -210,7 +211,8 @@ pub fn most_variables(pairs: usize) -> u32
 // The product of two runs of terms, of which one mask has the variables that every product has, and another the rest, at most 12.
 // Few variables get small areas, since an area is cleared each time.
 pub fn product_few(fixed: u32, mask: u32, f: &[u32], g: &[u32], out: &mut [u32]) -> usize
-    requires { ⌜ (length (now f) ≤ 64) × (length (now g) ≤ 64) × (fixed ≡ commonOf (now f) (now g)) × (mask ≡ varyingOf (now f) (now g)) × (degreeOf mask ≤ 12) × (length (now out) ≡ 64) ⌝ }
+    requires { let p = now f in let q = now g in
+        ⌜ (length p ≤ 64) × (length q ≤ 64) × (fixed ≡ commonOf p q) × (mask ≡ varyingOf p q) × (degreeOf mask ≤ 12) × (length (now out) ≡ 64) ⌝ }
     ensures size { λ r. ⌜ r ≡ length (productOf (now (f .entry)) (now (g .entry))) ⌝ }
     ensures product { λ _. ⌜ now (out .exit) ≡ placed (productOf (now (f .entry)) (now (g .entry))) (now (out .entry)) ⌝ }
 {

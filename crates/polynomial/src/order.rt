@@ -41,7 +41,7 @@ pub fn compare(f: &[u32], g: &[u32]) -> Ordering
     Ordering::Same
 }
 
-// Whether a run of at most 64 terms is in strict written order. It is for the crates above, which test the length.
+// Whether a run of at most 64 terms is in strict written order. It is for the crates `configuration` and `calculus`, which test the length.
 pub fn in_order(terms: &[u32]) -> bool
     requires { ⌜ length (now terms) ≤ 64 ⌝ }
     ensures { λ r. ⌜ r ≡ sorted before (now (terms .entry)) ⌝ }

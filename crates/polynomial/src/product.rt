@@ -46,7 +46,7 @@ fn short_product(f: &[u32], g: &[u32], out: &mut [u32]) -> usize
 
 // The product of two runs of terms by sorting, in areas that hold all the products of their terms.
 fn product_in(f: &[u32], g: &[u32], keys: &mut [u64], spare: &mut [u64], out: &mut [u32]) -> usize
-    requires { ⌜ (length (now f) * length (now g) ≤ length (now keys)) × (length (now f) * length (now g) ≤ length (now spare)) × (length (now out) ≡ 64) ⌝ }
+    requires { let n = length (now f) * length (now g) in ⌜ (n ≤ length (now keys)) × (n ≤ length (now spare)) × (length (now out) ≡ 64) ⌝ }
     ensures size { λ r. ⌜ r ≡ length (productOf (now (f .entry)) (now (g .entry))) ⌝ }
     ensures product { λ _. ⌜ now (out .exit) ≡ placed (productOf (now (f .entry)) (now (g .entry))) (now (out .entry)) ⌝ }
 {

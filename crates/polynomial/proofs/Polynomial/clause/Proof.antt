@@ -26,11 +26,11 @@ degree-requires c κs = search needs
 few : (c : tie.After-degree) → c .degree .result ≤ 32
 few c = let s = c .before .before in omega (arith, c .degree .ensures, degree-le 32 (s .args .plain) (s .fits .plain .fits))
 
-cast-t8 : tie.Need-cast-t8
-cast-t8 c = omega (arith, few (c .before))
+cast-t10 : tie.Need-cast-t10
+cast-t10 c = omega (arith, few (c .before))
 
-shl-t9 : tie.Need-shl-t9
-shl-t9 c = omega (arith, few (c .before))
+shl-t11 : tie.Need-shl-t11
+shl-t11 c = omega (arith, few (c .before))
 
 returns-2 : tie.Need-returns-2
 returns-2 c =
@@ -52,4 +52,4 @@ returns-3 c = c .short-clause .ensures
 pub clause-spec : {M : Type 1} → statement M
 clause-spec =
     tie.close
-    (tie.spec returns degree-requires cast-t8 shl-t9 returns-2 short-clause-requires returns-3)
+    (tie.spec returns degree-requires cast-t10 shl-t11 returns-2 short-clause-requires returns-3)
