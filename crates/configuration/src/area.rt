@@ -1,4 +1,4 @@
-// Parts of an area. These functions are for those of this crate that test areas, put lines in and take them out.
+// Parts of an area. These functions are for this crate: `form` tests areas, `table` puts lines in and takes them out, `blank` clears.
 ghost use mathlib.Core.Path.{_≡_};
 ghost use mathlib.Core.List.{_++_, _∷_};
 ghost use Prim.Native.Nat.{_+_, _-_, _≤_, _<_};

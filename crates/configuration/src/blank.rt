@@ -19,7 +19,7 @@ fn clear_weights(weights: &mut [i64])
     }
 }
 
-// Sets the areas of a table to zero: they hold nothing, of no variables. It is for the filing of problems, which has tested the lengths.
+// Sets the areas of a table to zero: they hold nothing, of no variables. It is for the crate `problem`, which has tested the lengths.
 pub fn blank(terms: &mut [u32], weights: &mut [i64], counts: &mut [u32]) -> Head
     requires { ⌜ (length (now terms) ≡ 8192) × (length (now weights) ≡ 128) × (length (now counts) ≡ 128) ⌝ }
     ensures { λ r. ⌜ memoryAfter r terms weights counts ≡ imageOf 128 0 [] ⌝ }

@@ -4,6 +4,7 @@ use crate::area::is_weightless;
 use crate::area::is_zero;
 use crate::table::row;
 use polynomial::Ordering;
+use polynomial::Polynomial;
 ghost use mathlib.Core.Path.{_≡_};
 ghost use Prim.Native.Nat.{_*_, _≤_, _^_};
 ghost use lib.Dec.{T, ltb};
@@ -64,7 +65,7 @@ fn is_polynomial(variables: u32, terms: &[u32]) -> bool
 fn line_fits(variables: u32, terms: &[u32], weight: i64) -> bool
     ensures { λ r. ⌜ r ≡ lineFits variables (line (now (terms .entry)) weight) ⌝ }
 {
-    if terms.len() == 0 {
+    if terms.len() == Polynomial::ZERO.count {
         return false;
     }
     if weight == 0 {

@@ -1,5 +1,5 @@
-// The index of a table: the order of its lines, while the lines themselves stay in their rows. Functions with a `requires` are
-// for this crate and those above it, which have tested the areas.
+// The index of a table: the order of its lines, while the lines themselves stay in their rows. Who calls a function with a
+// `requires` has tested the areas.
 use term::key_by;
 use term::table::byte_degrees;
 ghost use mathlib.Core.Path.{_≡_};
@@ -9,7 +9,7 @@ ghost use lib.ListN.{length, getD, take, drop};
 ghost use Rattle.configuration.specs.Index.{rowOf, keyIn, arranged, Once, ahead as leading, Falling, inTurn};
 ghost use Rattle.configuration.specs.Settling.{exchanged, relabelled};
 
-// The row of the line at a place.
+// The row of the line at a place. It is for this crate and `derivation`.
 pub fn row_at(index: &[u64], at: usize) -> usize
     requires { ⌜ at < length (now index) ⌝ }
     ensures { λ r. ⌜ r ≡ rowOf (getD (now (index .entry)) at 0) ⌝ }
@@ -18,7 +18,7 @@ pub fn row_at(index: &[u64], at: usize) -> usize
     (entry % 128) as usize
 }
 
-// The key of the first term of the line at a place.
+// The key of the first term of the line at a place. It is for this crate.
 pub fn key_at(index: &[u64], at: usize) -> u64
     requires { ⌜ at < length (now index) ⌝ }
     ensures { λ r. ⌜ r ≡ keyIn (getD (now (index .entry)) at 0) ⌝ }
@@ -37,7 +37,7 @@ fn above(entry: u64, key: u64) -> usize
 }
 
 // How many of the first entries have a key above the given one, by halving: the answer lies from `low` to `low + size`. It is
-// for the search, whose keys fall.
+// for this crate's search in `table`, where keys fall.
 pub fn ahead(lines: usize, index: &[u64], key: u64) -> usize
     requires { ⌜ (lines ≤ length (now index)) × Falling (take lines (now index)) × (key < 2 ^ 38) ⌝ }
     ensures { λ r. ⌜ r ≡ leading key (take lines (now (index .entry))) ⌝ }
@@ -53,7 +53,8 @@ pub fn ahead(lines: usize, index: &[u64], key: u64) -> usize
     low
 }
 
-// The index of a table whose lines stand in turn: the first in row 0, and so on. The operations above make it when they begin.
+// The index of a table whose lines stand in turn: the first in row 0, and so on. It is for the crates `calculus`, `problem` and
+// `derivation`, whose operations begin with it.
 pub fn in_turn(terms: &[u32]) -> [u64; 128]
     requires { ⌜ length (now terms) ≡ 8192 ⌝ }
     ensures { λ r. ⌜ r ≡ inTurn 128 0 (now (terms .entry)) ⌝ }
@@ -101,7 +102,7 @@ fn relabel(index: &mut [u64], from: usize, row: u64, other: u64)
     }
 }
 
-// Puts the lines in turn: each in the row of its place. The operations above end with it.
+// Puts the lines in turn: each in the row of its place. The operations of `calculus`, `problem` and `derivation` end with it.
 pub fn settle(index: [u64; 128], terms: &mut [u32], weights: &mut [i64], counts: &mut [u32])
     requires { ⌜ Once 128 index × (length (now terms) ≡ 8192) × (length (now weights) ≡ 128) × (length (now counts) ≡ 128) ⌝ }
     ensures { λ _. ⌜ (now (terms .exit) ≡ arranged 64 index (now (terms .entry)))

@@ -10,6 +10,7 @@ use crate::index::row_at;
 use crate::table::fold_at;
 use crate::table::look_up;
 use crate::table::row;
+use polynomial::Polynomial;
 use term::key;
 ghost use mathlib.Core.Path.{_≡_};
 ghost use mathlib.Core.Bool.{not};
@@ -252,7 +253,7 @@ fn fold_table(
 }
 
 // Replaces weighted polynomials in a configuration: the lines of a table of four are added, and the limits judged on the
-// outcome alone. A refusal changes nothing. It is for the crates above, which test the configuration and the polynomials first.
+// outcome alone. A refusal changes nothing. It is for the crate `calculus`, which tests the configuration and the polynomials first.
 pub fn replace(
     head: Head,
     index: &mut [u64],
@@ -320,8 +321,8 @@ pub fn replace(
     }
 }
 
-// Adds one weighted polynomial to a configuration, within the limits. A refusal changes nothing. It is for the filing of
-// problems, which has tested the polynomial and the weight.
+// Adds one weighted polynomial to a configuration, within the limits. A refusal changes nothing. It is for the crate `problem`,
+// which has tested the polynomial and the weight.
 pub fn add(
     head: Head,
     index: &mut [u64],
@@ -337,7 +338,7 @@ pub fn add(
         ⌜ replacementOf (tableMemory (tableAfter (r .head) index terms weights counts)) (r .verdict) ≡ replaced (line (now (f .entry)) amount ∷ []) m ⌝ }
     ensures kept { λ r. ⌜ TableKept 128 (tableAfter (r .head) index terms weights counts) ⌝ }
 {
-    if f.len() == 0 {
+    if f.len() == Polynomial::ZERO.count {
         return Replaced {
             head,
             verdict: Verdict::Done,

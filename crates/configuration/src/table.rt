@@ -1,5 +1,5 @@
-// Lines in the table: where a polynomial stands, and folding a weighted polynomial in. Functions with a `requires` are for
-// this crate and those above it, which have tested the configuration and the polynomials.
+// Lines in the table: where a polynomial stands, and folding a weighted polynomial in. Who calls a function with a `requires`
+// has tested the configuration and the polynomials.
 use crate::Head;
 use crate::area::clear;
 use crate::area::insert_entry;
@@ -7,6 +7,7 @@ use crate::area::remove_entry;
 use crate::index::ahead;
 use crate::index::row_at;
 use polynomial::Ordering;
+use polynomial::Polynomial;
 use polynomial::area::write;
 use polynomial::order::compare;
 use polynomial::order::least;
@@ -30,7 +31,7 @@ pub struct Place {
     pub held: bool,
 }
 
-// The terms of a line: a part of the term area.
+// The terms of a line: a part of the term area. It is for this crate and `listing`.
 pub fn row(terms: &[u32], i: usize, count: usize) -> &[u32]
     requires { ⌜ 64 * i + count ≤ length (now terms) ⌝ }
     ensures { λ r. ⌜ now r ≡ take count (drop (64 * i) (now (terms .entry))) ⌝ }
@@ -110,7 +111,7 @@ pub struct Known {
     pub weight: i64,
 }
 
-// Looks up a polynomial, not 0, whose first term has the given key.
+// Looks up a polynomial, not 0, whose first term has the given key. It is for this crate.
 pub fn look_up(
     head: Head,
     index: &[u64],
@@ -135,7 +136,7 @@ pub fn look_up(
     Known { at, weight: 0 }
 }
 
-// The weight of a polynomial.
+// The weight of a polynomial, not 0. It is for the crates `calculus` and `derivation`.
 pub fn weight_of(
     head: Head,
     index: &[u64],
@@ -247,7 +248,8 @@ pub fn fold_at(
     insert_line(head, index, terms, weights, counts, at, f, first, amount)
 }
 
-// Folds a weighted polynomial in: an equal polynomial's weight is added up, a weight or polynomial 0 vanishes.
+// Folds a weighted polynomial in: an equal polynomial's weight is added up, a weight or polynomial 0 vanishes. It is for the
+// crate `calculus`.
 pub fn fold_in(
     head: Head,
     index: &mut [u64],
@@ -264,7 +266,7 @@ pub fn fold_in(
         ⌜ tableMemory (tableAfter r index terms weights counts) ≡ imageOf (tableCapacity t) (head .variables) (add (now (f .entry)) amount (tableLines t)) ⌝ }
     ensures kept { λ r. ⌜ TableKept (tableCapacity (tableBefore head index terms weights counts)) (tableAfter r index terms weights counts) ⌝ }
 {
-    if f.len() == 0 {
+    if f.len() == Polynomial::ZERO.count {
         return head;
     }
     let first = key(f[0]);

@@ -8,11 +8,11 @@ use Rattle.configuration.proofs.form.line_fits.Statement.{statement}
 use Rattle.configuration.proofs.form.line_fits.Tie as tie
 
 returns : tie.Need-returns
-returns c = let a = c .before .before .args in no-terms (a .variables) (now (a .terms)) (a .weight) (c .if1 .taken)
+returns c = let a = c .before .before .before .args in no-terms (a .variables) (now (a .terms)) (a .weight) (c .if1 .taken)
 
 returns-2 : tie.Need-returns-2
 returns-2 c =
-    let s = c .before .before .before in
+    let s = c .before .before .before .before in
     let a = s .args in
     no-weight (a .variables) (now (a .terms)) (a .weight) (is-zero (a .weight) (s .fits .weight .sfits) (c .if2 .taken))
 
@@ -21,7 +21,7 @@ is-polynomial-requires c κs = search needs
 
 returns-3 : tie.Need-returns-3
 returns-3 c =
-    let a = c .before .before .before .before .args in
+    let a = c .before .before .before .before .before .args in
     c .is-polynomial .ensures
     ∙ the-polynomial (a .variables) (now (a .terms)) (a .weight) (c .before .before .if1 .left) (not-zero (a .weight) (c .before .if2 .left))
 

@@ -35,12 +35,12 @@ is-old s = well-formed (old s) (s .pre .1)
 
 returns : tie.Need-returns
 returns c =
-    let s = c .before .before .before .before .before in
+    let s = c .before .before .before .before .before .before in
     (nothing-added (old s) (s .args .f .now) (s .args .amount) (s .pre .1) (c .if1 .taken), s .pre .0)
 
 -- ---- the polynomial is not 0
 abbrev begun : tie.Else1 → tie.Start
-begun c = c .before .before .before .before .before
+begun c = c .before .before .before .before .before .before
 
 not-empty : (c : tie.Else1) → T (some (begun c .args .f .now))
 not-empty c = some-of (begun c .args .f .now) (c .if1 .left)

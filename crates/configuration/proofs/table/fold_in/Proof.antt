@@ -13,14 +13,14 @@ use Rattle.configuration.proofs.table.fold_in.Statement.{statement}
 use Rattle.configuration.proofs.table.fold_in.Tie as tie
 
 abbrev begun : tie.Else1 → tie.Start
-begun c = c .before .before .before .before .before
+begun c = c .before .before .before .before .before .before
 
 not-empty : (c : tie.Else1) → T (some (now (begun c .args .f)))
 not-empty c = some-of (now (begun c .args .f)) (c .if1 .left)
 
 returns : tie.Need-returns
 returns c =
-    let s = c .before .before .before .before .before in
+    let s = c .before .before .before .before .before .before in
     let a = s .args in (
       add-empty (length (now (a .counts))) (a .head) (arranged 64 (now (a .index)) (now (a .terms))) (arranged 1 (now (a .index)) (now (a .weights)))
           (arranged 1 (now (a .index)) (now (a .counts))) (s .pre .1) (now (a .f)) (a .amount) (c .if1 .taken),
