@@ -82,6 +82,10 @@ pub record Left : Type 0 where
   pub area : List ℕ
   pub told : Told
 
+-- what an area holds and an answer
+abbrev pub leftOf : List ℕ → Answer → Left
+leftOf area a = record { area = area; told = toldOf a }
+
 abbrev pub unless : Bool → ℕ → List ℕ → Left → Left
 unless true n area left = left
 unless false n area left = record { area = area; told = refusedAt 0 n }

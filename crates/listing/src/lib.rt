@@ -15,8 +15,9 @@ ghost use Prim.Native.Nat.{_+_, _≤_};
 ghost use lib.Dec.{T};
 ghost use lib.ListN.{length};
 ghost use Rattle.configuration.specs.Configuration.{line};
-ghost use Rattle.configuration.specs.Memory.{memoryOf, linesIn, wellFormed};
-ghost use Rattle.listing.specs.Listing.{headerText, lineText, textOf, listed, toldOf, writeLine};
+ghost use Rattle.configuration.specs.Memory.{linesOf, wellFormed};
+ghost use Rattle.configuration.specs.Table.{memoryAt, memoryBefore};
+ghost use Rattle.listing.specs.Listing.{headerText, lineText, textOf, listed, leftOf, writeLine};
 ghost use Rattle.listing.specs.Writing.{overwritten};
 
 // What writing a line answers: the length of its text. A refusal names record 0, and its reason.
@@ -59,9 +60,10 @@ fn put_text(
     counts: &[u32],
     number: usize,
 ) -> usize
-    requires { ⌜ T (wellFormed (memoryOf head (now terms) (now weights) (now counts))) × (number ≤ head .lines) × (8448 ≤ length (now out)) ⌝ }
-    ensures end { λ r. ⌜ r ≡ length (textOf number (head .variables) (linesIn head (now (terms .entry)) (now (weights .entry)) (now (counts .entry)))) ⌝ }
-    ensures text { λ _. ⌜ now (out .exit) ≡ overwritten (now (out .entry)) 0 (textOf number (head .variables) (linesIn head (now (terms .entry)) (now (weights .entry)) (now (counts .entry)))) ⌝ }
+    requires { ⌜ T (wellFormed (memoryAt head terms weights counts)) × (number ≤ head .lines) × (8448 ≤ length (now out)) ⌝ }
+    ensures end { λ r. let L = linesOf (memoryBefore head terms weights counts) in ⌜ r ≡ length (textOf number (head .variables) L) ⌝ }
+    ensures text { λ _. let L = linesOf (memoryBefore head terms weights counts) in
+        ⌜ now (out .exit) ≡ overwritten (now (out .entry)) 0 (textOf number (head .variables) L) ⌝ }
     ensures room { λ r. ⌜ r ≤ 8448 ⌝ }
 {
     if number == 0 {
@@ -72,8 +74,8 @@ fn put_text(
     put_line(out, row(terms, i, count), weights[i])
 }
 
-// The whole listing, from a place in the bytes on, line by line. It is for the checker, whose configurations are known to be
-// well formed.
+// The whole listing, from a place in the bytes on, line by line. It is for the crate `checker`, whose configurations are known
+// to be well formed.
 pub fn put_listing(
     out: &mut [u8],
     at: usize,
@@ -82,9 +84,9 @@ pub fn put_listing(
     weights: &[i64],
     counts: &[u32],
 ) -> usize
-    requires { ⌜ T (wellFormed (memoryOf head (now terms) (now weights) (now counts))) × (at + 1089792 ≤ length (now out)) ⌝ }
-    ensures end { λ r. ⌜ r ≡ at + length (listed (memoryOf head (now (terms .entry)) (now (weights .entry)) (now (counts .entry)))) ⌝ }
-    ensures text { λ _. ⌜ now (out .exit) ≡ overwritten (now (out .entry)) at (listed (memoryOf head (now (terms .entry)) (now (weights .entry)) (now (counts .entry)))) ⌝ }
+    requires { ⌜ T (wellFormed (memoryAt head terms weights counts)) × (at + 1089792 ≤ length (now out)) ⌝ }
+    ensures end { λ r. ⌜ r ≡ at + length (listed (memoryBefore head terms weights counts)) ⌝ }
+    ensures text { λ _. ⌜ now (out .exit) ≡ overwritten (now (out .entry)) at (listed (memoryBefore head terms weights counts)) ⌝ }
     ensures room { λ r. ⌜ r ≤ at + 1089792 ⌝ }
 {
     let lines = head.lines as usize;
@@ -107,7 +109,7 @@ pub fn write_line(
     counts: &[u32],
     number: usize,
 ) -> Answer
-    ensures { λ r. ⌜ record { area = now (area .exit); told = toldOf r } ≡ writeLine number (memoryOf head (now (terms .entry)) (now (weights .entry)) (now (counts .entry))) (now (area .entry)) ⌝ }
+    ensures { λ r. ⌜ leftOf (now (area .exit)) r ≡ writeLine number (memoryBefore head terms weights counts) (now (area .entry)) ⌝ }
 {
     if terms.len() != 8192 {
         return Answer::Refused(0, Reason::WrongLength);
