@@ -93,6 +93,10 @@ pub record Left : Type 0 where
   pub area : List ℕ
   pub told : Told
 
+-- what an area holds and an answer
+abbrev pub leftOf : List ℕ → Report → Left
+leftOf area r = record { area = area; told = toldOf r }
+
 unfoldable pub writeReport : List ℕ → List ℕ → Left
 writeReport text area =
     cond (leb 2179648 (length area)) (record { area = text ++ drop (length text) area; told = written (length text) }) (record { area = area; told = tooShort })

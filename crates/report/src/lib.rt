@@ -18,7 +18,7 @@ ghost use Rattle.problem.specs.Problem.{toldOf as toldOfFiling};
 ghost use Rattle.derivation.specs.Derivation.{toldOf};
 ghost use Rattle.refusal.specs.Refusal.{numberOf};
 ghost use Rattle.listing.specs.Writing.{overwritten};
-ghost use Rattle.report.specs.Report.{refusalText, confirmedText, filingText, verdictText, codeText, codeOutput, checkOutput, codeOfFile, checkOfFiles, toldOf as toldOfReport, writeReport, textOf};
+ghost use Rattle.report.specs.Report.{refusalText, confirmedText, filingText, verdictText, codeText, codeOutput, checkOutput, codeOfFile, checkOfFiles, leftOf, writeReport, textOf};
 
 // What writing a whole report answers: its length, or that the area could be too short.
 pub enum Report {
@@ -145,7 +145,7 @@ fn put_line(out: &mut [u8], at: usize, line: Text) -> usize
 // What there is to tell of a problem's and a derivation's bytes, as one text at the front of a lent area: the listing
 // before, the listing after, and the verdict; or what was refused of the problem.
 fn check_report(bytes: &[u8], steps: &[u8], out: &mut [u8]) -> Report
-    ensures { λ r. ⌜ record { area = now (out .exit); told = toldOfReport r } ≡ writeReport (checkOutput (now (bytes .entry)) (now (steps .entry))) (now (out .entry)) ⌝ }
+    ensures { λ r. ⌜ leftOf (now (out .exit)) r ≡ writeReport (checkOutput (now (bytes .entry)) (now (steps .entry))) (now (out .entry)) ⌝ }
 {
     if out.len() < 2179648 {
         return Report::TooShort;
@@ -191,7 +191,7 @@ pub fn code_file(bytes: &[u8]) -> Text
 
 // What the program `check_derivation` prints of its files, at the front of a lent area.
 pub fn check_files(bytes: &[u8], steps: &[u8], out: &mut [u8]) -> Report
-    ensures { λ r. ⌜ record { area = now (out .exit); told = toldOfReport r } ≡ writeReport (checkOfFiles (now (bytes .entry)) (now (steps .entry))) (now (out .entry)) ⌝ }
+    ensures { λ r. ⌜ leftOf (now (out .exit)) r ≡ writeReport (checkOfFiles (now (bytes .entry)) (now (steps .entry))) (now (out .entry)) ⌝ }
 {
     if out.len() < 2179648 {
         return Report::TooShort;
