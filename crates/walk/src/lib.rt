@@ -34,10 +34,12 @@ fn refused(count: usize, reason: Reason) -> Work
 }
 
 // M: adds the term whose mask stands at a place in the bytes to the work polynomial, whose terms stand in so many places at
-// the front of an area of 64. A term that is there vanishes.
+// the front of an area of 64. A term that is there vanishes. It is for `problem` and `derivation`, whose work polynomial is
+// always in order.
 pub fn add_term(variables: u32, bytes: &[u8], at: usize, work: &mut [u32], count: usize) -> Work
     requires { ⌜ (length (now work) ≡ 64) × (count ≤ 64) × Ordered (take count (now work)) ⌝ }
-    ensures sum { λ r. ⌜ record { reached = take (r .count) (now (work .exit)); stop = stopOf (r .turn) } ≡ after (take count (now (work .entry))) (termAdded variables (now (bytes .entry)) at (take count (now (work .entry)))) ⌝ }
+    ensures sum { λ r. let f = take count (now (work .entry)) in
+        ⌜ record { reached = take (r .count) (now (work .exit)); stop = stopOf (r .turn) } ≡ after f (termAdded variables (now (bytes .entry)) at f) ⌝ }
     ensures room { λ r. ⌜ r .count ≤ 64 ⌝ }
 {
     let Mask::Whole(mask) = read_mask(bytes, at) else {
