@@ -2,9 +2,10 @@
 -- entry. Two accepted filings of one problem leave one head, one content of the areas, one listing and one code.
 use mathlib.Core.Path.{_≡_, ap}
 use mathlib.Core.Bool.{false}
-use mathlib.Core.List.{List, []}
+use mathlib.Core.List.{List}
 use Prim.Native.Nat.{ℕ}
 use lib.Dec.{T}
+use Rattle.polynomial.specs.Polynomial.{ZERO}
 use Rattle.configuration.specs.Configuration.{total}
 use Rattle.configuration.specs.Memory.{Memory, linesOf, sized}
 use Rattle.listing.specs.Listing.{listed}
@@ -29,7 +30,7 @@ seen a b e = record {
 -- if every polynomial function other than 0 has the same total weight among the entries of both
 pub one-listing : (s t : List ℕ) (m l : Memory) → T (sized 128 m) → T (sized 128 l) → fileProblem s m .told ≡ filed → fileProblem t l .told ≡ filed
     → fileProblem s m .memory .variables ≡ fileProblem t l .memory .variables
-    → ((f : List ℕ) → agrees (fileProblem s m .memory .variables) f [] ≡ false
+    → ((f : List ℕ) → agrees (fileProblem s m .memory .variables) f ZERO ≡ false
     → total (agrees (fileProblem s m .memory .variables) f) (entries s) ≡ total (agrees (fileProblem s m .memory .variables) f) (entries t))
     → OneFiling (fileProblem s m) (fileProblem t l)
 one-listing s t m l hm hl es et e h = seen (fileProblem s m) (fileProblem t l) (same-problem s t m l hm hl es et e h)

@@ -6,7 +6,7 @@ use lib.Dec.{leb, ltb, eqb}
 use lib.IntN.{ℤ, pos}
 use lib.Signed.{leZ}
 use lib.ListN.{length, getD}
-use Rattle.polynomial.specs.Polynomial.{clauseOf}
+use Rattle.polynomial.specs.Polynomial.{ZERO, clauseOf}
 use Rattle.configuration.specs.Configuration.{Line, some, add}
 use Rattle.configuration.specs.Memory.{Memory, imageOf, sized}
 use Rattle.configuration.specs.Replacement.{Step, taken, refused, within}
@@ -25,7 +25,7 @@ pub record State : Type 0 where
   pub lines : List Line
 
 abbrev pub empty : State
-empty = record { started = false; variables = 0; work = []; lines = [] }
+empty = record { started = false; variables = 0; work = ZERO; lines = [] }
 
 -- the state with another work polynomial and other lines
 abbrev pub having : List ℕ → List Line → State → State
@@ -47,7 +47,7 @@ onVariables s p =
     unless (not (p .state .started)) 4
     (unless (whole 1 s (p .at + 1)) 3
     (unless (leb n 32) 5
-    (accepted (past p 2 (record { started = true; variables = n; work = []; lines = [] })))))
+    (accepted (past p 2 (record { started = true; variables = n; work = ZERO; lines = [] })))))
 
 -- M: a term is added to the work polynomial
 abbrev pub onTerm : List ℕ → Progress State → Outcome (Progress State)
@@ -62,7 +62,7 @@ onWeight s p =
     unless (p .state .started) 4
     (unless (whole 8 s (p .at + 1)) 3
     (unless (weightFits w) 8
-    (folded p 9 [] (within (add (p .state .work) w (p .state .lines))))))
+    (folded p 9 ZERO (within (add (p .state .work) w (p .state .lines))))))
 
 -- C: a clause is added at a weight; the work polynomial is untouched
 abbrev pub onClause : List ℕ → Progress State → Outcome (Progress State)

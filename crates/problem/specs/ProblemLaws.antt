@@ -10,7 +10,7 @@ use lib.Dec.{le→leb, T, leb, leb→le, ltb, ltb→lt, nltb→le, eqb}
 use lib.IntN.{ℤ, pos, negsuc, _+ℤ_, +ℤ-idl}
 use lib.ListN.{length, getD}
 use Rattle.run.specs.Boolean.{bool-ext, is-true, of-true, both, cond-ind}
-use Rattle.polynomial.specs.Polynomial.{eval, orderOf, sumOf, clauseOf}
+use Rattle.polynomial.specs.Polynomial.{ZERO, eval, orderOf, sumOf, clauseOf}
 use Rattle.polynomial.specs.ClauseLaws.{clause-ordered, clause-below}
 use Rattle.configuration.specs.Weight.{isZero, isNegative, share}
 use Rattle.configuration.specs.Configuration.{lineFits, Line, line, some, same, total, weight, keep, fold, add, addAll, Every, isPolynomial, linesFit, weightsFit, anyNegative}
@@ -44,12 +44,12 @@ folded-ind R p size work L nay yea = go (leb (length L) 128) (weightsFit L) (λ 
 module _ (s : List ℕ) (p : Progress State) (R : List Line → Outcome (Progress State) → Type 0) where
   pub record-ind : ((C : List Line) (n : ℕ) → R C (turnedDown n))
       → (T (not (p .state .started)) → T (whole 1 s (p .at + 1)) → numberAt 1 s (p .at + 1) ≤ 32
-      → R [] (accepted (past p 2 (record { started = true; variables = numberAt 1 s (p .at + 1); work = []; lines = [] }))))
+      → R [] (accepted (past p 2 (record { started = true; variables = numberAt 1 s (p .at + 1); work = ZERO; lines = [] }))))
       → ((t : ℕ) → T (p .state .started) → T (whole 4 s (p .at + 1)) → t < 2 ^ (p .state .variables) → T (leb (length (sumOf (t ∷ []) (p .state .work))) 64)
       → R [] (accepted (past p 5 (having (sumOf (t ∷ []) (p .state .work)) (p .state .lines) (p .state)))))
       → ((w : ℤ) → T (p .state .started) → T (whole 8 s (p .at + 1)) → T (weightFits w)
       → length (add (p .state .work) w (p .state .lines)) ≤ 128 → T (weightsFit (add (p .state .work) w (p .state .lines)))
-      → R (line (p .state .work) w ∷ []) (accepted (past p 9 (having [] (add (p .state .work) w (p .state .lines)) (p .state)))))
+      → R (line (p .state .work) w ∷ []) (accepted (past p 9 (having ZERO (add (p .state .work) w (p .state .lines)) (p .state)))))
       → ((a b : ℕ) (w : ℤ) → T (p .state .started) → T (whole 16 s (p .at + 1)) → a < 2 ^ (p .state .variables) → b < 2 ^ (p .state .variables) → T (weightFits w)
       → T (leb (length (clauseOf a b)) 64) → length (add (clauseOf a b) w (p .state .lines)) ≤ 128 → T (weightsFit (add (clauseOf a b) w (p .state .lines)))
       → R (line (clauseOf a b) w ∷ []) (accepted (past p 17 (having (p .state .work) (add (clauseOf a b) w (p .state .lines)) (p .state)))))
@@ -90,7 +90,7 @@ module _ (s : List ℕ) (p : Progress State) (R : List Line → Outcome (Progres
       go false false true e =
           let C : List Line = line f u ∷ [] in
           unless-ind (R C) (p .state .started) 4 (nay C) (λ h. unless-ind (R C) (whole 8 s (p .at + 1)) 3 (nay C) (λ i. unless-ind (R C) (weightFits u) 8 (nay C) (λ j.
-          folded-ind (R C) p 9 [] (add f u L) (nay C) (λ k l. onW u h i j k l))))
+          folded-ind (R C) p 9 ZERO (add f u L) (nay C) (λ k l. onW u h i j k l))))
       go false false false true =
           let C : List Line = line (clauseOf x y) w ∷ [] in
           unless-ind (R C) (p .state .started) 4 (nay C) (λ h. unless-ind (R C) (whole 16 s (p .at + 1)) 3 (nay C) (λ i.
@@ -169,7 +169,7 @@ pub record Sound (x : State) : Type 0 where
   pub room : length (x .lines) ≤ 128
   pub weights : T (weightsFit (x .lines))
   pub signs : anyNegative (x .lines) ≡ false
-  pub fresh : T (not (x .started)) → (x .variables ≡ 0) × ((x .work ≡ []) × (x .lines ≡ []))
+  pub fresh : T (not (x .started)) → (x .variables ≡ 0) × ((x .work ≡ ZERO) × (x .lines ≡ []))
 
 pub sound-empty : Sound empty
 unfolding linesFit weightsFit anyNegative
@@ -206,7 +206,7 @@ sound-record s p q e o = rw e at (record-ind s p (λ C r. Kept (λ q. Sound (q .
       signs = o .signs;
       fresh = λ n. absurd n;
     })
-    (λ w h i j k l. sound-added (p .state) [] (p .state .work) w o (none-polynomial (p .state .variables)) (o .polynomial) j k l)
+    (λ w h i j k l. sound-added (p .state) ZERO (p .state .work) w o (none-polynomial (p .state .variables)) (o .polynomial) j k l)
     (λ a b w h i j k l m n r. sound-added (p .state) (p .state .work) (clauseOf a b) w o (o .polynomial) (clause-polynomial (p .state .variables) a b j k m) l n r))
 
 pub sound-filing : (k : ℕ) (s : List ℕ) (p : Progress State) → Sound (p .state) → Sound ((walk filing k s p) .reached .state)
@@ -321,12 +321,12 @@ weight-foreign n p (line f w ∷ C) h e = go (same p f) refl (weight-foreign n p
 
 -- entries that sum to the same as functions make one configuration
 module _ (n : ℕ) (C D : List Line) (c : Every (λ f. T (isPolynomial n f)) C) (d : Every (λ f. T (isPolynomial n f)) D)
-    (h : (f : List ℕ) → agrees n f [] ≡ false → total (agrees n f) C ≡ total (agrees n f) D) where
+    (h : (f : List ℕ) → agrees n f ZERO ≡ false → total (agrees n f) C ≡ total (agrees n f) D) where
   same-weight : (p : List ℕ) → T (some p) → weight C p ≡ weight D p
   same-weight p s = go (isPolynomial n p) refl
     where
       go : (b : Bool) → isPolynomial n p ≡ b → weight C p ≡ weight D p
-      go true e = sym (weight-agrees n p C (of-true e) c) ∙ h p (agrees-same n p [] (of-true e) (none-polynomial n) ∙ same-none p s) ∙ weight-agrees n p D (of-true e) d
+      go true e = sym (weight-agrees n p C (of-true e) c) ∙ h p (agrees-same n p ZERO (of-true e) (none-polynomial n) ∙ same-none p s) ∙ weight-agrees n p D (of-true e) d
       go false e = weight-foreign n p C e c ∙ sym (weight-foreign n p D e d)
 
   pub same-sum : addAll C [] ≡ addAll D []
@@ -372,7 +372,7 @@ leaves-same f g a b c = rw (a, b, c)
 
 pub same-problem : (s t : List ℕ) (m l : Memory) → T (sized 128 m) → T (sized 128 l) → fileProblem s m .told ≡ filed → fileProblem t l .told ≡ filed
     → fileProblem s m .memory .variables ≡ fileProblem t l .memory .variables
-    → ((f : List ℕ) → agrees (fileProblem s m .memory .variables) f [] ≡ false
+    → ((f : List ℕ) → agrees (fileProblem s m .memory .variables) f ZERO ≡ false
     → total (agrees (fileProblem s m .memory .variables) f) (entries s) ≡ total (agrees (fileProblem s m .memory .variables) f) (entries t))
     → fileProblem s m ≡ fileProblem t l
 same-problem s t m l hm hl es et e h =
@@ -384,8 +384,8 @@ same-problem s t m l hm hl es et e h =
     let a : fileProblem s m ≡ leaves F = filed-is s m hm in
     let b : fileProblem t l ≡ leaves G = filed-is t l hl in
     let v : n ≡ G .reached .state .variables = sym (ap (λ (x : Left). x .memory .variables) a) ∙ e ∙ ap (λ (x : Left). x .memory .variables) b in
-    let k : (f : List ℕ) → agrees n f [] ≡ false → total (agrees n f) C ≡ total (agrees n f) D =
-    subst (λ (n : ℕ). (f : List ℕ) → agrees n f [] ≡ false → total (agrees n f) C ≡ total (agrees n f) D) (ap (λ (x : Left). x .memory .variables) a) h in
+    let k : (f : List ℕ) → agrees n f ZERO ≡ false → total (agrees n f) C ≡ total (agrees n f) D =
+    subst (λ (n : ℕ). (f : List ℕ) → agrees n f ZERO ≡ false → total (agrees n f) C ≡ total (agrees n f) D) (ap (λ (x : Left). x .memory .variables) a) h in
     let c : Fitting n C = entries-fit (length s) s (begun empty) sound-empty in
     let d : Fitting n D = subst (λ (n : ℕ). Fitting n D) (sym v) (entries-fit (length t) t (begun empty) sound-empty) in
     let lines : F .reached .state .lines ≡ G .reached .state .lines =
@@ -410,5 +410,5 @@ total-permuted test (trans C D E h k) = total-permuted test h ∙ total-permuted
 
 -- permuted entries satisfy what same-problem asks
 pub permuted : (s t : List ℕ) (n : ℕ) → Permuted (entries s) (entries t)
-    → (f : List ℕ) → agrees n f [] ≡ false → total (agrees n f) (entries s) ≡ total (agrees n f) (entries t)
+    → (f : List ℕ) → agrees n f ZERO ≡ false → total (agrees n f) (entries s) ≡ total (agrees n f) (entries t)
 permuted s t n h f e = total-permuted (agrees n f) h

@@ -8,7 +8,7 @@ use native.Mathlib.Omega.{arith}
 use lib.Dec.{T, leb, leb→le, ltb, eqb}
 use lib.ListN.{length, getD, take}
 use lib.Seq.{getD-take}
-use Rattle.polynomial.specs.Polynomial.{clauseOf}
+use Rattle.polynomial.specs.Polynomial.{ZERO, clauseOf}
 use Rattle.configuration.specs.Configuration.{add}
 use Rattle.configuration.specs.Memory.{Memory, sized}
 use Rattle.configuration.specs.Replacement.{Step, taken, refused, within}
@@ -34,7 +34,7 @@ record-inside s p q e = rw e at (record-ind s p (λ C r. Kept (λ q. (p .at < q 
 module _ (s : List ℕ) (p : Progress State) (K : ℕ) (l : K ≤ length s) where
   variables-take : p .at + 2 ≤ K → onVariables (take K s) p ≡ onVariables s p
   variables-take h = ap₂ (λ (b : Bool) (x : ℕ). unless (not (p .state .started)) 4 (unless b 3 (unless (leb x 32) 5
-      (accepted (past p 2 (record { started = true; variables = x; work = []; lines = [] }))))))
+      (accepted (past p 2 (record { started = true; variables = x; work = ZERO; lines = [] }))))))
       (whole-take 1 (p .at + 1) K s (omega arith) l) (number-take 1 (p .at + 1) K s (omega arith))
 
   term-take : p .at + 5 ≤ K → onTerm (take K s) p ≡ onTerm s p
@@ -43,7 +43,7 @@ module _ (s : List ℕ) (p : Progress State) (K : ℕ) (l : K ≤ length s) wher
 
   weight-take : p .at + 9 ≤ K → onWeight (take K s) p ≡ onWeight s p
   weight-take h = ap₂ (λ (b : Bool) (x : ℕ). unless (p .state .started) 4 (unless b 3 (unless (weightFits (signed x)) 8
-      (folded p 9 [] (within (add (p .state .work) (signed x) (p .state .lines)))))))
+      (folded p 9 ZERO (within (add (p .state .work) (signed x) (p .state .lines)))))))
       (whole-take 8 (p .at + 1) K s (omega arith) l) (number-take 8 (p .at + 1) K s (omega arith))
 
   clause-take : p .at + 17 ≤ K → onClause (take K s) p ≡ onClause s p
@@ -81,7 +81,7 @@ module _ (s : List ℕ) (p : Progress State) where
       let E : Outcome (Progress State) → Type 0 = Ends (p .at + 9) in
       unless-ind E (p .state .started) 4 (λ n. tt) (λ h. unless-ind E (whole 8 s (p .at + 1)) 3 (λ n. tt) (λ i.
       unless-ind E (weightFits (signedAt s (p .at + 1))) 8 (λ n. tt) (λ j.
-      ends-folded p 9 [] (within (add (p .state .work) (signedAt s (p .at + 1)) (p .state .lines))))))
+      ends-folded p 9 ZERO (within (add (p .state .work) (signedAt s (p .at + 1)) (p .state .lines))))))
 
   ends-clause : Ends (p .at + 17) (onClause s p)
   ends-clause =

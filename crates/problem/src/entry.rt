@@ -1,4 +1,4 @@
-// What each kind of record does in a filing. These functions are for the walk over the records alone.
+// What each kind of record does in a filing. These functions are for `on_record` of this crate alone.
 use crate::Progress;
 use crate::Step;
 use configuration::Head;
@@ -21,14 +21,12 @@ ghost use mathlib.Core.Bool.{true};
 ghost use mathlib.Core.List.{List};
 ghost use Prim.Native.Nat.{ℕ, _+_, _≤_, _<_};
 ghost use lib.Dec.{T};
-ghost use lib.IntN.{ℤ};
 ghost use lib.ListN.{length, take};
 ghost use Rattle.configuration.specs.Configuration.{add as addTo, isPolynomial};
-ghost use Rattle.configuration.specs.Index.{linesBy};
 ghost use Rattle.configuration.specs.Replacement.{within};
-ghost use Rattle.walk.specs.Walk.{stopOf, after};
+ghost use Rattle.walk.specs.Walk.{after};
 ghost use Rattle.problem.specs.Problem.{weightFits, folded, onVariables, onTerm, onWeight, onClause};
-ghost use Rattle.problem.specs.Held.{progressOf, Ready};
+ghost use Rattle.problem.specs.Held.{Does, StaysReady, ReadyAt, ReadyAfter, progressBefore, leftAfter};
 
 // Whether a weight may be filed: from 1 to 1,000,000,000.
 fn weight_fits(weight: i64) -> bool
@@ -53,7 +51,10 @@ pub fn refused(p: Progress, reason: Reason) -> Step
 // An accepted record of so many bytes, which leaves a head and a work polynomial of so many terms.
 fn accepted(p: Progress, size: usize, head: Head, work: usize) -> Step
     requires { ⌜ (p .at + size < 18446744073709551616) × (p .records < 18446744073709551615) ⌝ }
-    ensures { λ r. ⌜ r ≡ record { progress = record { at = p .at + size; records = p .records + 1; started = true; head = head; work = work }; turn = Turn.Accepted } ⌝ }
+    ensures { λ r. ⌜ r ≡ record {
+      progress = record { at = p .at + size; records = p .records + 1; started = true; head = head; work = work };
+      turn = Turn.Accepted;
+    } ⌝ }
 {
     Step {
         progress: Progress {
@@ -70,8 +71,8 @@ fn accepted(p: Progress, size: usize, head: Head, work: usize) -> Step
 // V: the number of variables.
 pub fn on_variables(bytes: &[u8], p: Progress) -> Step
     requires { ⌜ (p .at < length (now bytes)) × (p .records ≤ p .at) ⌝ }
-    ensures step { λ r. ⌜ ((us is ts : List ℕ) (ws : List ℤ) (cs : List ℕ) → Ready p us is ts ws cs → record { reached = progressOf (r .progress) us is ts ws cs; stop = stopOf (r .turn) } ≡ after (progressOf p us is ts ws cs) (onVariables (now (bytes .entry)) (progressOf p us is ts ws cs))) ⌝ }
-    ensures ready { λ r. ⌜ ((us is ts : List ℕ) (ws : List ℤ) (cs : List ℕ) → Ready p us is ts ws cs → Ready (r .progress) us is ts ws cs) ⌝ }
+    ensures step { λ r. ⌜ ((us : List ℕ) → Does (onVariables (now (bytes .entry))) p us r us) ⌝ }
+    ensures ready { λ r. ⌜ ((us : List ℕ) → StaysReady p us r us) ⌝ }
 {
     if p.started {
         return refused(p, Reason::Misplaced);
@@ -86,14 +87,15 @@ pub fn on_variables(bytes: &[u8], p: Progress) -> Step
         variables: variables as u32,
         lines: 0,
     };
-    accepted(p, 2, head, 0)
+    accepted(p, 2, head, Polynomial::ZERO.count)
 }
 
 // M: a term is added to the work polynomial.
 pub fn on_term(bytes: &[u8], p: Progress, work: &mut [u32]) -> Step
-    requires { ⌜ (p .at < length (now bytes)) × (p .records ≤ p .at) × (length (now work) ≡ 64) × (p .work ≤ 64) × T (isPolynomial (p .head .variables) (take (p .work) (now work))) ⌝ }
-    ensures step { λ r. ⌜ ((is ts : List ℕ) (ws : List ℤ) (cs : List ℕ) → Ready p (now (work .entry)) is ts ws cs → record { reached = progressOf (r .progress) (now (work .exit)) is ts ws cs; stop = stopOf (r .turn) } ≡ after (progressOf p (now (work .entry)) is ts ws cs) (onTerm (now (bytes .entry)) (progressOf p (now (work .entry)) is ts ws cs))) ⌝ }
-    ensures ready { λ r. ⌜ ((is ts : List ℕ) (ws : List ℤ) (cs : List ℕ) → Ready p (now (work .entry)) is ts ws cs → Ready (r .progress) (now (work .exit)) is ts ws cs) ⌝ }
+    requires { ⌜ (p .at < length (now bytes)) × (p .records ≤ p .at) × (length (now work) ≡ 64) × (p .work ≤ 64)
+        × T (isPolynomial (p .head .variables) (take (p .work) (now work))) ⌝ }
+    ensures step { λ r. ⌜ Does (onTerm (now (bytes .entry))) p (now (work .entry)) r (now (work .exit)) ⌝ }
+    ensures ready { λ r. ⌜ StaysReady p (now (work .entry)) r (now (work .exit)) ⌝ }
 {
     if !p.started {
         return refused(p, Reason::Misplaced);
@@ -120,9 +122,12 @@ fn fold(
     weights: &mut [i64],
     counts: &mut [u32],
 ) -> Step
-    requires { ⌜ Ready p (now work) (now index) (now terms) (now weights) (now counts) × T (isPolynomial (p .head .variables) (now f)) × (left ≤ 64) × T (isPolynomial (p .head .variables) (take left (now work))) × T (weightFits weight) × (0 < size) × (p .at + size < 18446744073709551616) ⌝ }
-    ensures step { λ r. ⌜ record { reached = progressOf (r .progress) (now (work .entry)) (now (index .exit)) (now (terms .exit)) (now (weights .exit)) (now (counts .exit)); stop = stopOf (r .turn) } ≡ after (progressOf p (now (work .entry)) (now (index .entry)) (now (terms .entry)) (now (weights .entry)) (now (counts .entry))) (folded (progressOf p (now (work .entry)) (now (index .entry)) (now (terms .entry)) (now (weights .entry)) (now (counts .entry))) size (take left (now (work .entry))) (within (addTo (now (f .entry)) weight (linesBy (p .head) (now (index .entry)) (now (terms .entry)) (now (weights .entry)) (now (counts .entry)))))) ⌝ }
-    ensures ready { λ r. ⌜ Ready (r .progress) (now (work .entry)) (now (index .exit)) (now (terms .exit)) (now (weights .exit)) (now (counts .exit)) ⌝ }
+    requires { let n = p .head .variables in ⌜ ReadyAt p work index terms weights counts × T (isPolynomial n (now f)) × (left ≤ 64)
+        × T (isPolynomial n (take left (now work))) × T (weightFits weight) × (0 < size) × (p .at + size < 18446744073709551616) ⌝ }
+    ensures step { λ r. let q = progressBefore p work index terms weights counts in
+        ⌜ leftAfter r work index terms weights counts
+        ≡ after q (folded q size (take left (now (work .entry))) (within (addTo (now (f .entry)) weight (q .state .lines)))) ⌝ }
+    ensures ready { λ r. ⌜ ReadyAfter (r .progress) work index terms weights counts ⌝ }
 {
     let done = add(p.head, index, terms, weights, counts, f, weight);
     let verdict = done.verdict;
@@ -143,9 +148,10 @@ pub fn on_weight(
     weights: &mut [i64],
     counts: &mut [u32],
 ) -> Step
-    requires { ⌜ (p .at < length (now bytes)) × Ready p (now work) (now index) (now terms) (now weights) (now counts) ⌝ }
-    ensures step { λ r. ⌜ record { reached = progressOf (r .progress) (now (work .entry)) (now (index .exit)) (now (terms .exit)) (now (weights .exit)) (now (counts .exit)); stop = stopOf (r .turn) } ≡ after (progressOf p (now (work .entry)) (now (index .entry)) (now (terms .entry)) (now (weights .entry)) (now (counts .entry))) (onWeight (now (bytes .entry)) (progressOf p (now (work .entry)) (now (index .entry)) (now (terms .entry)) (now (weights .entry)) (now (counts .entry)))) ⌝ }
-    ensures ready { λ r. ⌜ Ready (r .progress) (now (work .entry)) (now (index .exit)) (now (terms .exit)) (now (weights .exit)) (now (counts .exit)) ⌝ }
+    requires { ⌜ (p .at < length (now bytes)) × ReadyAt p work index terms weights counts ⌝ }
+    ensures step { λ r. let q = progressBefore p work index terms weights counts in
+        ⌜ leftAfter r work index terms weights counts ≡ after q (onWeight (now (bytes .entry)) q) ⌝ }
+    ensures ready { λ r. ⌜ ReadyAfter (r .progress) work index terms weights counts ⌝ }
 {
     if !p.started {
         return refused(p, Reason::Misplaced);
@@ -158,7 +164,18 @@ pub fn on_weight(
     }
     let count = p.work;
     let f = &work[..count];
-    fold(p, 9, f, weight, 0, work, index, terms, weights, counts)
+    fold(
+        p,
+        9,
+        f,
+        weight,
+        Polynomial::ZERO.count,
+        work,
+        index,
+        terms,
+        weights,
+        counts,
+    )
 }
 
 // C: a clause is added at a weight; the work polynomial is untouched.
@@ -171,9 +188,10 @@ pub fn on_clause(
     weights: &mut [i64],
     counts: &mut [u32],
 ) -> Step
-    requires { ⌜ (p .at < length (now bytes)) × Ready p (now work) (now index) (now terms) (now weights) (now counts) ⌝ }
-    ensures step { λ r. ⌜ record { reached = progressOf (r .progress) (now (work .entry)) (now (index .exit)) (now (terms .exit)) (now (weights .exit)) (now (counts .exit)); stop = stopOf (r .turn) } ≡ after (progressOf p (now (work .entry)) (now (index .entry)) (now (terms .entry)) (now (weights .entry)) (now (counts .entry))) (onClause (now (bytes .entry)) (progressOf p (now (work .entry)) (now (index .entry)) (now (terms .entry)) (now (weights .entry)) (now (counts .entry)))) ⌝ }
-    ensures ready { λ r. ⌜ Ready (r .progress) (now (work .entry)) (now (index .exit)) (now (terms .exit)) (now (weights .exit)) (now (counts .exit)) ⌝ }
+    requires { ⌜ (p .at < length (now bytes)) × ReadyAt p work index terms weights counts ⌝ }
+    ensures step { λ r. let q = progressBefore p work index terms weights counts in
+        ⌜ leftAfter r work index terms weights counts ≡ after q (onClause (now (bytes .entry)) q) ⌝ }
+    ensures ready { λ r. ⌜ ReadyAfter (r .progress) work index terms weights counts ⌝ }
 {
     if !p.started {
         return refused(p, Reason::Misplaced);

@@ -10,6 +10,7 @@ use entry::on_term;
 use entry::on_variables;
 use entry::on_weight;
 use entry::refused;
+use polynomial::Polynomial;
 use refusal::Reason;
 use walk::Turn;
 ghost use mathlib.Core.Path.{_≡_};
@@ -18,11 +19,12 @@ ghost use mathlib.Core.List.{[]};
 ghost use Prim.Native.Nat.{_<_};
 ghost use lib.Dec.{eqb};
 ghost use lib.ListN.{length};
-ghost use Rattle.configuration.specs.Memory.{memoryOf, imageOf};
-ghost use Rattle.configuration.specs.Index.{indexedOf, Kept};
-ghost use Rattle.walk.specs.Walk.{nothing, refusedFor, stopOf, after, readAll};
-ghost use Rattle.problem.specs.Problem.{empty, onRecord, filing, toldOf, verdict, leftOf, leaves, lent, fileProblem};
-ghost use Rattle.problem.specs.Held.{progressOf, Ready};
+ghost use Rattle.polynomial.specs.Polynomial.{ZERO};
+ghost use Rattle.configuration.specs.Memory.{imageOf};
+ghost use Rattle.configuration.specs.Table.{tableAt, tableAfter, memoryAfter, tableMemory, TableKept};
+ghost use Rattle.walk.specs.Walk.{nothing, refusedFor, after, readAll};
+ghost use Rattle.problem.specs.Problem.{empty, onRecord, filing, toldOf, verdict, leftOf, leaves, fileProblem};
+ghost use Rattle.problem.specs.Held.{ReadyAt, ReadyAfter, progressBefore, leftAfter, lentBefore};
 
 // What a filing answers. A refusal names a record, 0 where the lent areas are refused, and its reason.
 pub enum Answer {
@@ -62,9 +64,10 @@ fn on_record(
     weights: &mut [i64],
     counts: &mut [u32],
 ) -> Step
-    requires { ⌜ (p .at < length (now bytes)) × Ready p (now work) (now index) (now terms) (now weights) (now counts) ⌝ }
-    ensures step { λ r. ⌜ record { reached = progressOf (r .progress) (now (work .exit)) (now (index .exit)) (now (terms .exit)) (now (weights .exit)) (now (counts .exit)); stop = stopOf (r .turn) } ≡ after (progressOf p (now (work .entry)) (now (index .entry)) (now (terms .entry)) (now (weights .entry)) (now (counts .entry))) (onRecord (now (bytes .entry)) (progressOf p (now (work .entry)) (now (index .entry)) (now (terms .entry)) (now (weights .entry)) (now (counts .entry)))) ⌝ }
-    ensures ready { λ r. ⌜ Ready (r .progress) (now (work .exit)) (now (index .exit)) (now (terms .exit)) (now (weights .exit)) (now (counts .exit)) ⌝ }
+    requires { ⌜ (p .at < length (now bytes)) × ReadyAt p work index terms weights counts ⌝ }
+    ensures step { λ r. let q = progressBefore p work index terms weights counts in
+        ⌜ leftAfter r work index terms weights counts ≡ after q (onRecord (now (bytes .entry)) q) ⌝ }
+    ensures ready { λ r. ⌜ ReadyAfter (r .progress) work index terms weights counts ⌝ }
 {
     let at = p.at;
     let kind = bytes[at];
@@ -83,15 +86,15 @@ fn on_record(
     refused(p, Reason::Misplaced)
 }
 
-// The end of the bytes: V must have come, and the work polynomial be empty.
+// The end of the bytes: V must have come, and the work polynomial be 0.
 fn finish(p: Progress) -> Answer
     requires { ⌜ p .records < 18446744073709551615 ⌝ }
-    ensures { λ r. ⌜ toldOf r ≡ verdict (p .records) (cond (p .started && eqb (p .work) 0) nothing (refusedFor 15)) ⌝ }
+    ensures { λ r. ⌜ toldOf r ≡ verdict (p .records) (cond (p .started && eqb (p .work) (length ZERO)) nothing (refusedFor 15)) ⌝ }
 {
     if !p.started {
         return Answer::Refused(p.records + 1, Reason::Unfinished);
     }
-    if p.work != 0 {
+    if p.work != Polynomial::ZERO.count {
         return Answer::Refused(p.records + 1, Reason::Unfinished);
     }
     Answer::Filed
@@ -106,17 +109,18 @@ fn read_records(
     weights: &mut [i64],
     counts: &mut [u32],
 ) -> Report
-    requires { ⌜ Kept 128 head (now index) (now terms) (now weights) (now counts) × (indexedOf head (now index) (now terms) (now weights) (now counts) ≡ imageOf 128 0 []) ⌝ }
-    ensures left { λ r. ⌜ leftOf (indexedOf (r .head) (now (index .exit)) (now (terms .exit)) (now (weights .exit)) (now (counts .exit))) (r .answer) ≡ leaves (readAll filing (now (bytes .entry)) empty) ⌝ }
-    ensures kept { λ r. ⌜ Kept 128 (r .head) (now (index .exit)) (now (terms .exit)) (now (weights .exit)) (now (counts .exit)) ⌝ }
+    requires { let t = tableAt head index terms weights counts in ⌜ TableKept 128 t × (tableMemory t ≡ imageOf 128 0 []) ⌝ }
+    ensures left { λ r. ⌜ leftOf (tableMemory (tableAfter (r .head) index terms weights counts)) (r .answer) ≡ leaves (readAll filing (now (bytes .entry)) empty) ⌝ }
+    ensures kept { λ r. ⌜ TableKept 128 (tableAfter (r .head) index terms weights counts) ⌝ }
 {
-    let mut work = [0u32; 64];
+    let zero = Polynomial::ZERO;
+    let mut work = zero.terms;
     let mut p = Progress {
         at: 0,
         records: 0,
         started: false,
         head,
-        work: 0,
+        work: zero.count,
     };
     while p.at < bytes.len() {
         let step = on_record(bytes, p, &mut work, index, terms, weights, counts);
@@ -156,7 +160,7 @@ pub fn file_problem(
     weights: &mut [i64],
     counts: &mut [u32],
 ) -> Report
-    ensures { λ r. ⌜ leftOf (memoryOf (r .head) (now (terms .exit)) (now (weights .exit)) (now (counts .exit))) (r .answer) ≡ fileProblem (now (bytes .entry)) (lent (now (terms .entry)) (now (weights .entry)) (now (counts .entry))) ⌝ }
+    ensures { λ r. ⌜ leftOf (memoryAfter (r .head) terms weights counts) (r .answer) ≡ fileProblem (now (bytes .entry)) (lentBefore terms weights counts) ⌝ }
 {
     if terms.len() != 8192 {
         return turned_away();

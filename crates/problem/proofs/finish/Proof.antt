@@ -14,18 +14,18 @@ returns c =
     let p = c .before .before .before .args .p in
     no-start (p .records) (p .started) (eqb (p .work) 0) (not-true _ (c .before .if1 .taken))
 
-add-t5 : tie.Need-add-t5
-add-t5 c = search needs
+add-t7 : tie.Need-add-t7
+add-t7 c = search needs
 
 returns-2 : tie.Need-returns-2
 returns-2 c =
-    let p = c .before .before .before .before .before .args .p in
-    work-left (p .records) (p .started) (eqb (p .work) 0) (not-false _ (c .before .before .before .if1 .left)) (ne-eqb (p .work) 0 (c .before .if2 .taken))
+    let p = c .before .before .before .before .before .before .args .p in
+    work-left (p .records) (p .started) (eqb (p .work) 0) (not-false _ (c .before .before .before .before .if1 .left)) (ne-eqb (p .work) 0 (c .before .if2 .taken))
 
 returns-3 : tie.Need-returns-3
 returns-3 c =
-    let p = c .before .before .before .before .args .p in
-    all-filed (p .records) (p .started) (eqb (p .work) 0) (not-false _ (c .before .before .if1 .left)) (eq-eqb (p .work) 0 (c .if2 .left))
+    let p = c .before .before .before .before .before .args .p in
+    all-filed (p .records) (p .started) (eqb (p .work) 0) (not-false _ (c .before .before .before .if1 .left)) (eq-eqb (p .work) 0 (c .if2 .left))
 
 pub finish-spec : {M : Type 1} → statement M
-finish-spec = tie.close (tie.spec add-t3 returns add-t5 returns-2 returns-3)
+finish-spec = tie.close (tie.spec add-t3 returns add-t7 returns-2 returns-3)

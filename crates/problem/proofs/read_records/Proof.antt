@@ -30,7 +30,7 @@ short c = omega arith
 
 -- ---- one record
 abbrev start : tie.After-on-record Inv-loop μ-loop → tie.Start Inv-loop μ-loop
-start c = c .before .before .before .before .before .before .before .before .before .before .before .before .before
+start c = c .before .before .before .before .before .before .before .before .before .before .before .before .before .before
 
 abbrev was : tie.After-on-record Inv-loop μ-loop → W.Progress State
 was c = let l = c .before .before .before .before .before .before .before .before .loop in progressOf (l .p) (l .work) (l .index) (l .terms) (l .weights) (l .counts)
@@ -50,7 +50,7 @@ told c t e = ap (λ (t : Turn). record { reached = reached c; stop = stopOf t })
 
 loop-holds : tie.Need-loop-holds Inv-loop μ-loop
 loop-holds c =
-    let s = c .before .before .before .before in
+    let s = c .before .before .before .before .before in
     let a = s .args in (
       refl,
       refl,
@@ -70,13 +70,13 @@ on-record-requires c κs = let l = c .before .before .before .before .before .be
 enum-known-turn : tie.Need-enum-known-turn Inv-loop μ-loop
 enum-known-turn c = search needs
 
-add-t28 : tie.Need-add-t28 Inv-loop μ-loop
-add-t28 c =
+add-t30 : tie.Need-add-t30 Inv-loop μ-loop
+add-t30 c =
     let k = c .before .before .before .before .before .before .before .before .before .before .before .before .before .before in
     let u : reached k .at ≡ was k .at = ap (λ (q : W.Progress State). q .at) (unmoved filing (now (start k .args .bytes)) (was k) (reached k) _ (told k _ (c .before .before .before .turn .given .1))) in
     let n = k .on-record .ensures .1 .counted in
     let d = under k in
-    let g = short (k .before .before .before .before .before .before .before .before .before .before .before .before) in
+    let g = short (k .before .before .before .before .before .before .before .before .before .before .before .before .before) in
     record { fits = omega arith }
 
 same-length : tie.Need-same-length Inv-loop μ-loop
@@ -148,7 +148,7 @@ same-length-8 c = search needs
 returns-2 : tie.Need-returns-2 Inv-loop μ-loop
 returns-2 c =
     let l = c .before .before .before .before .loop in
-    let s = c .before .before .before .before .before .before .before .before .before in
+    let s = c .before .before .before .before .before .before .before .before .before .before in
     let q : W.Progress State = progressOf (l .p) (l .work) (l .index) (l .terms) (l .weights) (l .counts) in (
       left-there (l .p) (l .work) (l .index) (l .terms) (l .weights) (l .counts) (c .finish .result) (over filing q .stop) (l .inv .5)
           (rw (sym (held-none (l .p .work) (l .work) (l .inv .5 .area))) (c .finish .ensures))
@@ -166,7 +166,7 @@ read-records-spec =
     slice-aggregate-on-record
     on-record-requires
     enum-known-turn
-    add-t28
+    add-t30
     same-length
     same-length-2
     same-length-3
