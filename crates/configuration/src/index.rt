@@ -1,5 +1,5 @@
-// The index of a table: the order of its lines, while the lines themselves stay in their rows. Who calls a function with a
-// `requires` has tested the areas.
+// The index of a table: the order of its lines, while the lines themselves stay in their rows. Callers of a function with a
+// `requires` have tested the areas.
 use term::key_by;
 use term::table::byte_degrees;
 ghost use mathlib.Core.Path.{_≡_};

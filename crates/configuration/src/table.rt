@@ -1,5 +1,5 @@
-// Lines in the table: where a polynomial stands, and folding a weighted polynomial in. Who calls a function with a `requires`
-// has tested the configuration and the polynomials.
+// Lines in the table: where a polynomial stands, and folding a weighted polynomial in. Callers of a function with a `requires`
+// have tested the configuration and the polynomials.
 use crate::Head;
 use crate::area::clear;
 use crate::area::insert_entry;
