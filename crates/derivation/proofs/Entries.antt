@@ -1,7 +1,7 @@
 -- What each answer of the code for one record says: the progress that is left as the definitions have it, and what holds before the next record.
 use mathlib.Core.Path.{_≡_, refl, sym, ap, subst, _∙_}
 use mathlib.Core.Bool.{Bool, true, false, not, _&&_}
-use mathlib.Core.List.{List, [], _∷_}
+use mathlib.Core.List.{List}
 use Prim.Native.Nat.{ℕ, _+_, _≤_}
 use native.Mathlib.Numerals.{add-one}
 use native.Mathlib.Omega.{arith}
@@ -11,6 +11,7 @@ use lib.Signed.{leZ}
 use lib.ListN.{length, take}
 use Rattle.refusal.specs.Refusal.{numberOf}
 use Rattle.refusal.specs.declared.Reason.{Reason}
+use Rattle.polynomial.specs.Polynomial.{ONE}
 use Rattle.configuration.specs.Configuration.{some, weight, isPolynomial, anyNegative}
 use Rattle.configuration.specs.FormLaws.{none-polynomial}
 use Rattle.configuration.specs.Memory.{Memory, linesOf, formed, wellFormed}
@@ -23,7 +24,7 @@ use Rattle.walk.specs.Walk.{Outcome, turnedDown, stopOf, Walked, after}
 use Rattle.walk.specs.declared.Turn.the-variants.{Accepted, Refused}
 use Rattle.walk.specs.Work.{termAdded}
 use Rattle.derivation.specs.Derivation.{State, going, claimFits, onTerm, onChoice, onClaim}
-use Rattle.derivation.specs.Held.{progressOf, Ready}
+use Rattle.derivation.specs.Held.{progressOf, Ready, passed, closing}
 use Rattle.derivation.specs.declared.Progress.{Progress}
 use Rattle.derivation.specs.declared.Step.{Step}
 use Rattle.record.specs.declared.Amount.the-variants as A
@@ -74,21 +75,6 @@ pub passes : (n : ℕ) (q : Progress) (fs us is ts : List ℕ) (ws : List ℤ) (
     → Ready n q fs us is ts ws cs → (begun : W.Progress State) (x : Outcome (W.Progress State)) → x ≡ W.accepted (progressOf q fs us is ts ws cs)
     → (left-by fs us is ts ws cs r ≡ after begun x) × Ready n (r .progress) fs us is ts ws cs
 passes n q fs us is ts ws cs r e ready begun x k = (ap (left-by fs us is ts ws cs) e ∙ ap (after begun) (sym k), rw e ready)
-
--- the progress after a record of so many bytes: f, set or not, and the work polynomial have so many terms
-abbrev pub passed : Progress → ℕ → Bool → ℕ → ℕ → Head → Progress
-passed p size chosen first work head = record {
-  at = p .at + size;
-  records = p .records + 1;
-  started = p .started;
-  mode = p .mode;
-  chosen = chosen;
-  first = first;
-  work = work;
-  head = head;
-  closed = p .closed;
-  claim = p .claim;
-}
 
 -- ---- M
 module _ (n : ℕ) (s : List ℕ) (p : Progress) (fs us is ts : List ℕ) (ws : List ℤ) (cs : List ℕ) where
@@ -147,20 +133,6 @@ module _ (p : Progress) (fs us is ts : List ℕ) (ws : List ℤ) (cs : List ℕ)
     }) here (onChoice here) (rw (e, k, add-one (p .records), g))
 
 -- ---- B
-abbrev pub closing : Progress → ℤ → Progress
-closing p w = record {
-  at = p .at + 9;
-  records = p .records + 1;
-  started = p .started;
-  mode = p .mode;
-  chosen = p .chosen;
-  first = p .first;
-  work = p .work;
-  head = p .head;
-  closed = true;
-  claim = w;
-}
-
 module _ (s : List ℕ) (p : Progress) (fs us is ts : List ℕ) (ws : List ℤ) (cs : List ℕ) where
   abbrev now : W.Progress State
   now = progressOf p fs us is ts ws cs
@@ -184,10 +156,10 @@ module _ (s : List ℕ) (p : Progress) (fs us is ts : List ℕ) (ws : List ℤ) 
         claim-negative k = rw (e, amount-whole s (p .at + 1) w a .0, amount-whole s (p .at + 1) w a .1, f, k)
 
         module _ (m : anyNegative (now .state .lines) ≡ false) where
-          pub claim-high : leZ w (weight (now .state .lines) (0 ∷ [])) ≡ false → onClaim s now ≡ turnedDown 13
+          pub claim-high : leZ w (weight (now .state .lines) ONE) ≡ false → onClaim s now ≡ turnedDown 13
           claim-high k = rw (e, amount-whole s (p .at + 1) w a .0, amount-whole s (p .at + 1) w a .1, f, m, k)
 
-          pub claim-closed : leZ w (weight (now .state .lines) (0 ∷ [])) ≡ true → (n : ℕ) → Ready n p fs us is ts ws cs
+          pub claim-closed : leZ w (weight (now .state .lines) ONE) ≡ true → (n : ℕ) → Ready n p fs us is ts ws cs
               → (r : Step) → r ≡ record { progress = closing p w; turn = Accepted }
               → (left-by fs us is ts ws cs r ≡ after now (onClaim s now)) × Ready n (r .progress) fs us is ts ws cs
           claim-closed k n ready r d = passes n (closing p w) fs us is ts ws cs r d (record {

@@ -21,12 +21,12 @@ use Rattle.calculus.specs.declared.Rule.{Rule}
 use Rattle.record.specs.Record.{amountIn}
 use Rattle.record.proofs.Bodies.{amount-cut, amount-whole}
 use Rattle.derivation.specs.Derivation.{State, going, onStep}
-use Rattle.derivation.specs.Held.{progressOf, Ready}
+use Rattle.derivation.specs.Held.{progressOf, Ready, passed}
 use Rattle.derivation.specs.declared.Progress.{Progress}
 use Rattle.derivation.specs.declared.Step.{Step}
 use Rattle.walk.specs.declared.Turn.the-variants.{Accepted, Refused}
 use Rattle.configuration.specs.FormLaws.{none-polynomial}
-use Rattle.derivation.proofs.Entries.{left-by, refused-as, passes, passed}
+use Rattle.derivation.proofs.Entries.{left-by, refused-as, passes}
 use Rattle.configuration.specs.Replacement as R
 use Rattle.calculus.specs.Calculus as C
 use Rattle.calculus.specs.declared.Answer.the-variants as Answers

@@ -7,6 +7,7 @@ use lib.IntN.{ℤ, pos}
 use lib.Signed.{leZ}
 use lib.ListN.{getD}
 use Rattle.term.specs.Term.{degreeOf}
+use Rattle.polynomial.specs.Polynomial.{ZERO, ONE}
 use Rattle.configuration.specs.Weight.{limit}
 use Rattle.configuration.specs.Configuration.{Line, line, some, weight, anyNegative}
 use Rattle.configuration.specs.Memory.{Memory, linesOf, imageOf, sized, wellFormed}
@@ -36,7 +37,7 @@ pub record State : Type 0 where
   pub claim : ℤ
 
 abbrev pub fresh : List Line → State
-fresh L = record { started = false; mode = Plain; chosen = false; first = []; work = []; lines = L; closed = false; claim = pos 0 }
+fresh L = record { started = false; mode = Plain; chosen = false; first = ZERO; work = ZERO; lines = L; closed = false; claim = pos 0 }
 
 -- between the mode and the claim
 abbrev pub going : State → Bool
@@ -89,11 +90,11 @@ abbrev pub onChoice : Progress State → Outcome (Progress State)
 onChoice p =
     let x = p .state in
     unless (going x && not (x .chosen)) 4
-    (accepted (past p 1 (having true (x .work) [] (x .lines) x)))
+    (accepted (past p 1 (having true (x .work) ZERO (x .lines) x)))
 
 -- the lines that a step leaves; f and the work polynomial are cleared
 abbrev pub stepped : Progress State → Step → Outcome (Progress State)
-stepped p (taken L) = accepted (past p 9 (having false [] [] L (p .state)))
+stepped p (taken L) = accepted (past p 9 (having false ZERO ZERO L (p .state)))
 stepped p (refused n) = turnedDown n
 
 -- S, P: a step of f with the work polynomial
@@ -117,7 +118,7 @@ onClaim s p =
     (unless (whole 8 s (p .at + 1)) 3
     (unless (claimFits w) 8
     (unless (not (anyNegative (x .lines))) 12
-    (unless (leZ w (weight (x .lines) (0 ∷ []))) 13
+    (unless (leZ w (weight (x .lines) ONE)) 13
     (accepted (past p 9 (closes w x)))))))
 
 -- the kinds are the letters N, Z, M, K, S, P and B; n is the number of variables

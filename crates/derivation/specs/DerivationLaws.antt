@@ -10,6 +10,7 @@ use lib.IntN.{ℤ, pos, negsuc}
 use lib.Signed.{_≤ℤ_, leZ, leZ-yes}
 use lib.ListN.{length, getD}
 use Rattle.run.specs.Boolean.{is-true}
+use Rattle.polynomial.specs.Polynomial.{ZERO, ONE}
 use Rattle.configuration.specs.Configuration.{Line, some, cost, weight, isPolynomial, linesFit, weightsFit, anyNegative}
 use Rattle.configuration.specs.ConfigurationLaws.{bound}
 use Rattle.configuration.specs.FormLaws.{none-polynomial}
@@ -38,7 +39,7 @@ within-bytes (b ∷ s) zero k h e = omega arith
 within-bytes (b ∷ s) (suc i) k h e = omega (arith, within-bytes s i k h e)
 
 stepped-ind : (P : Outcome (Progress State) → Type 0) (p : Progress State) (t : Step) → ((k : ℕ) → P (turnedDown k))
-    → ((L : List Line) → t ≡ taken L → P (accepted (past p 9 (having false [] [] L (p .state))))) → P (stepped p t)
+    → ((L : List Line) → t ≡ taken L → P (accepted (past p 9 (having false ZERO ZERO L (p .state))))) → P (stepped p t)
 stepped-ind P p (taken L) nay yea = yea L refl
 stepped-ind P p (refused k) nay yea = nay k
 
@@ -47,12 +48,12 @@ module _ (n : ℕ) (s : List ℕ) (p : Progress State) (P : Outcome (Progress St
       → ((d : Mode) → p .at < length s → T (not (p .state .started)) → P (accepted (past p 1 (begins d (p .state)))))
       → ((g : List ℕ) → T (going (p .state)) → termAdded n s (p .at + 1) (p .state .work) ≡ accepted g
       → P (accepted (past p 5 (having (p .state .chosen) (p .state .first) g (p .state .lines) (p .state)))))
-      → (p .at < length s → T (going (p .state) && not (p .state .chosen)) → P (accepted (past p 1 (having true (p .state .work) [] (p .state .lines) (p .state)))))
+      → (p .at < length s → T (going (p .state) && not (p .state .chosen)) → P (accepted (past p 1 (having true (p .state .work) ZERO (p .state .lines) (p .state)))))
       → ((r : Rule) (L : List Line) → T (going (p .state) && p .state .chosen) → T (whole 8 s (p .at + 1))
       → step r (p .state .mode) (p .state .first) (p .state .work) (signedAt s (p .at + 1)) (p .state .lines) ≡ taken L
-      → P (accepted (past p 9 (having false [] [] L (p .state)))))
+      → P (accepted (past p 9 (having false ZERO ZERO L (p .state)))))
       → ((w : ℤ) → T (going (p .state) && (not (p .state .chosen) && not (some (p .state .work)))) → T (whole 8 s (p .at + 1)) → T (claimFits w)
-      → T (not (anyNegative (p .state .lines))) → T (leZ w (weight (p .state .lines) (0 ∷ []))) → P (accepted (past p 9 (closes w (p .state)))))
+      → T (not (anyNegative (p .state .lines))) → T (leZ w (weight (p .state .lines) ONE)) → P (accepted (past p 9 (closes w (p .state)))))
       → P (onRecord n s p)
   unfolding onRecord
   record-ind nay yeaMode yeaTerm yeaChoice yeaStep yeaClaim =
@@ -86,7 +87,7 @@ module _ (n : ℕ) (s : List ℕ) (p : Progress State) (P : Outcome (Progress St
       claims : P (onClaim s p)
       claims = unless-ind P (going x && (not (x .chosen) && not (some (x .work)))) 4 nay (λ h. unless-ind P (whole 8 s (p .at + 1)) 3 nay (λ i.
           unless-ind P (claimFits w) 8 nay (λ j. unless-ind P (not (anyNegative (x .lines))) 12 nay (λ k.
-          unless-ind P (leZ w (weight (x .lines) (0 ∷ []))) 13 nay (λ l. yeaClaim w h i j k l)))))
+          unless-ind P (leZ w (weight (x .lines) ONE)) 13 nay (λ l. yeaClaim w h i j k l)))))
 
       go : (a b c d e f g : Bool) → (T a → p .at < length s) → (T b → p .at < length s) → (T d → p .at < length s)
           → P (cond a (onMode Plain p) (cond b (onMode Signed p) (cond c (onTerm n s p) (cond d (onChoice p)
@@ -107,7 +108,7 @@ pub record Sound (n : ℕ) (x : State) : Type 0 where
   pub fit : T (linesFit n (x .lines))
   pub room : length (x .lines) ≤ 128
   pub weights : T (weightsFit (x .lines))
-  pub claimed : T (x .closed) → T (claimFits (x .claim)) × (anyNegative (x .lines) ≡ false) × (x .claim ≤ℤ weight (x .lines) (0 ∷ []))
+  pub claimed : T (x .closed) → T (claimFits (x .claim)) × (anyNegative (x .lines) ≡ false) × (x .claim ≤ℤ weight (x .lines) ONE)
 
 pub sound-record : (n : ℕ) (s : List ℕ) (p q : Progress State) → onRecord n s p ≡ accepted q → Sound n (p .state) → Sound n (q .state)
 sound-record n s p q e o =
@@ -245,7 +246,7 @@ module _ (s : List ℕ) (m : Memory) (h : T (wellFormed m)) (w : ℤ) (D : ℕ) 
   pub confirmed-degree : D ≡ degreeIn (linesOf (checkDerivation s m .memory))
   confirmed-degree = says .2 ∙ sym (ap degreeIn (check-lines s m h))
 
-  claimed : let x = reached s m in T (claimFits (x .claim)) × (anyNegative (x .lines) ≡ false) × (x .claim ≤ℤ weight (x .lines) (0 ∷ []))
+  claimed : let x = reached s m in T (claimFits (x .claim)) × (anyNegative (x .lines) ≡ false) × (x .claim ≤ℤ weight (x .lines) ONE)
   claimed = sound-check s m h .claimed (walk-complete (checking (m .variables)) (length s) s (begun (fresh (linesOf m))) (says .0))
 
   -- the claim is from 0 to 10^12
@@ -256,4 +257,4 @@ module _ (s : List ℕ) (m : Memory) (h : T (wellFormed m)) (w : ℤ) (D : ℕ) 
   pub confirmed-bound : (α : ℕ) → w ≤ℤ cost (linesOf m) α
   confirmed-bound α =
       let x : State = reached s m in
-      rw (says .1, ← check-cost s m α) (≤ℤ-trans (x .claim) (weight (x .lines) (0 ∷ [])) (cost (x .lines) α) (claimed .2) (bound (x .lines) α (claimed .1)))
+      rw (says .1, ← check-cost s m α) (≤ℤ-trans (x .claim) (weight (x .lines) ONE) (cost (x .lines) α) (claimed .2) (bound (x .lines) α (claimed .1)))

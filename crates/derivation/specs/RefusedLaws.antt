@@ -12,6 +12,7 @@ use lib.Signed.{_≤ℤ_, leZ}
 use lib.ListN.{length, getD, take}
 use lib.Seq.{getD-take}
 use Rattle.run.specs.Boolean.{of-true}
+use Rattle.polynomial.specs.Polynomial.{ONE}
 use Rattle.configuration.specs.Configuration.{some, cost, weight, anyNegative}
 use Rattle.configuration.specs.Memory.{Memory, linesOf, sized, wellFormed}
 use Rattle.configuration.specs.Replacement.{Step, taken, refused}
@@ -58,7 +59,7 @@ module _ (n : ℕ) (s : List ℕ) (p : Progress State) (K : ℕ) (l : K ≤ leng
   claims-take h =
       let x : State = p .state in
       ap₂ (λ (b : Bool) (v : ℕ). unless (going x && (not (x .chosen) && not (some (x .work)))) 4 (unless b 3 (unless (claimFits (signed v)) 8
-      (unless (not (anyNegative (x .lines))) 12 (unless (leZ (signed v) (weight (x .lines) (0 ∷ []))) 13 (accepted (past p 9 (closes (signed v) x))))))))
+      (unless (not (anyNegative (x .lines))) 12 (unless (leZ (signed v) (weight (x .lines) ONE)) 13 (accepted (past p 9 (closes (signed v) x))))))))
       (whole-take 8 (p .at + 1) K s (omega arith) l) (number-take 8 (p .at + 1) K s (omega arith))
 
 -- where a record of each kind ends, if it is accepted
@@ -89,7 +90,7 @@ module _ (n : ℕ) (s : List ℕ) (p : Progress State) where
       unless-ind E (going x && (not (x .chosen) && not (some (x .work)))) 4 (λ k. tt) (λ a.
       unless-ind E (whole 8 s (p .at + 1)) 3 (λ k. tt) (λ b. unless-ind E (claimFits w) 8 (λ k. tt) (λ c.
       unless-ind E (not (anyNegative (x .lines))) 12 (λ k. tt) (λ d.
-      unless-ind E (leZ w (weight (x .lines) (0 ∷ []))) 13 (λ k. tt) (λ e. refl)))))
+      unless-ind E (leZ w (weight (x .lines) ONE)) 13 (λ k. tt) (λ e. refl)))))
 
 record-prefix : (n : ℕ) (s : List ℕ) (p q : Progress State) (K : ℕ) → K ≤ length s → q .at ≤ K → onRecord n s p ≡ accepted q → onRecord n (take K s) p ≡ accepted q
 unfolding onRecord

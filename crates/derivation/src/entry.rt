@@ -1,4 +1,4 @@
-// What each kind of record does in a derivation. These functions are for the walk over the records alone.
+// What each kind of record does in a derivation. These functions are for `on_record` of this crate alone.
 use crate::Progress;
 use crate::Step;
 use calculus::Mode;
@@ -17,17 +17,16 @@ use walk::Turn;
 use walk::add_term;
 ghost use mathlib.Core.Path.{_≡_};
 ghost use mathlib.Core.Bool.{true, _&&_, not};
-ghost use mathlib.Core.List.{List, [], _∷_};
+ghost use mathlib.Core.List.{List};
 ghost use Prim.Native.Nat.{ℕ, _+_, _≤_, _<_};
-ghost use lib.IntN.{ℤ};
 ghost use lib.Dec.{T, eqb};
 ghost use lib.ListN.{length, take};
+ghost use Rattle.polynomial.specs.Polynomial.{ZERO, ONE};
 ghost use Rattle.configuration.specs.Configuration.{weight, isPolynomial};
-ghost use Rattle.configuration.specs.Memory.{formed};
-ghost use Rattle.configuration.specs.Index.{indexedOf, linesBy, Kept};
-ghost use Rattle.walk.specs.Walk.{stopOf, after};
+ghost use Rattle.configuration.specs.Table.{tableAt, tableBefore, tableCapacity, tableLines, TableKept, tableFormed};
+ghost use Rattle.walk.specs.Walk.{after};
 ghost use Rattle.derivation.specs.Derivation.{claimFits, onMode, onTerm, onChoice, onStep, onClaim};
-ghost use Rattle.derivation.specs.Held.{progressOf, Ready};
+ghost use Rattle.derivation.specs.Held.{passed, closing, Does, StaysReady, ReadyAt, ReadyAfter, progressBefore, leftAfter};
 
 // A refused record.
 pub fn refused(p: Progress, reason: Reason) -> Step
@@ -51,7 +50,7 @@ fn is_going(p: Progress) -> bool
 
 // Whether, besides, neither f is set nor the work polynomial has a term.
 fn is_idle(p: Progress) -> bool
-    ensures { λ r. ⌜ r ≡ ((p .started && not (p .closed)) && (not (p .chosen) && eqb (p .work) 0)) ⌝ }
+    ensures { λ r. ⌜ r ≡ ((p .started && not (p .closed)) && (not (p .chosen) && eqb (p .work) (length ZERO))) ⌝ }
 {
     if !is_going(p) {
         return false;
@@ -59,13 +58,13 @@ fn is_idle(p: Progress) -> bool
     if p.chosen {
         return false;
     }
-    p.work == 0
+    p.work == Polynomial::ZERO.count
 }
 
 // An accepted record of so many bytes, which leaves f, set or not, and a work polynomial, of so many terms, and a head.
 fn accepted(p: Progress, size: usize, chosen: bool, first: usize, work: usize, head: Head) -> Step
     requires { ⌜ (p .at + size < 18446744073709551616) × (p .records < 18446744073709551615) ⌝ }
-    ensures { λ r. ⌜ r ≡ record { progress = record { at = p .at + size; records = p .records + 1; started = p .started; mode = p .mode; chosen = chosen; first = first; work = work; head = head; closed = p .closed; claim = p .claim }; turn = Turn.Accepted } ⌝ }
+    ensures { λ r. ⌜ r ≡ record { progress = passed p size chosen first work head; turn = Turn.Accepted } ⌝ }
 {
     let mode = p.mode;
     Step {
@@ -88,8 +87,8 @@ fn accepted(p: Progress, size: usize, chosen: bool, first: usize, work: usize, h
 // N, Z: the mode.
 pub fn on_mode(p: Progress, mode: Mode) -> Step
     requires { ⌜ (p .at < 18446744073709551615) × (p .records ≤ p .at) ⌝ }
-    ensures step { λ r. ⌜ ((fs us is ts : List ℕ) (ws : List ℤ) (cs : List ℕ) → Ready (p .head .variables) p fs us is ts ws cs → record { reached = progressOf (r .progress) fs us is ts ws cs; stop = stopOf (r .turn) } ≡ after (progressOf p fs us is ts ws cs) (onMode mode (progressOf p fs us is ts ws cs))) ⌝ }
-    ensures ready { λ r. ⌜ ((fs us is ts : List ℕ) (ws : List ℤ) (cs : List ℕ) → Ready (p .head .variables) p fs us is ts ws cs → Ready (p .head .variables) (r .progress) fs us is ts ws cs) ⌝ }
+    ensures step { λ r. ⌜ ((fs us : List ℕ) → Does (onMode mode) p fs us r fs us) ⌝ }
+    ensures ready { λ r. ⌜ ((fs us : List ℕ) → StaysReady p fs us r fs us) ⌝ }
 {
     if p.started {
         return refused(p, Reason::Misplaced);
@@ -114,9 +113,11 @@ pub fn on_mode(p: Progress, mode: Mode) -> Step
 
 // M: a term is added to the work polynomial.
 pub fn on_term(bytes: &[u8], p: Progress, work: &mut [u32]) -> Step
-    requires { ⌜ (p .at < length (now bytes)) × (p .records ≤ p .at) × (length (now work) ≡ 64) × (p .work ≤ 64) × T (isPolynomial (p .head .variables) (take (p .work) (now work))) ⌝ }
-    ensures step { λ r. ⌜ ((fs is ts : List ℕ) (ws : List ℤ) (cs : List ℕ) → Ready (p .head .variables) p fs (now (work .entry)) is ts ws cs → record { reached = progressOf (r .progress) fs (now (work .exit)) is ts ws cs; stop = stopOf (r .turn) } ≡ after (progressOf p fs (now (work .entry)) is ts ws cs) (onTerm (p .head .variables) (now (bytes .entry)) (progressOf p fs (now (work .entry)) is ts ws cs))) ⌝ }
-    ensures ready { λ r. ⌜ ((fs is ts : List ℕ) (ws : List ℤ) (cs : List ℕ) → Ready (p .head .variables) p fs (now (work .entry)) is ts ws cs → Ready (p .head .variables) (r .progress) fs (now (work .exit)) is ts ws cs) ⌝ }
+    requires { ⌜ (p .at < length (now bytes)) × (p .records ≤ p .at) × (length (now work) ≡ 64) × (p .work ≤ 64)
+        × T (isPolynomial (p .head .variables) (take (p .work) (now work))) ⌝ }
+    ensures step { λ r. let on = onTerm (p .head .variables) (now (bytes .entry)) in
+        ⌜ ((fs : List ℕ) → Does on p fs (now (work .entry)) r fs (now (work .exit))) ⌝ }
+    ensures ready { λ r. ⌜ ((fs : List ℕ) → StaysReady p fs (now (work .entry)) r fs (now (work .exit))) ⌝ }
 {
     if !is_going(p) {
         return refused(p, Reason::Misplaced);
@@ -133,8 +134,8 @@ pub fn on_term(bytes: &[u8], p: Progress, work: &mut [u32]) -> Step
 // K: the work polynomial becomes f, and is cleared.
 pub fn on_choice(p: Progress, first: &mut [u32], work: &[u32]) -> Step
     requires { ⌜ (p .at < 18446744073709551615) × (p .records ≤ p .at) × (length (now first) ≡ 64) × (length (now work) ≡ 64) × (p .work ≤ 64) ⌝ }
-    ensures step { λ r. ⌜ ((is ts : List ℕ) (ws : List ℤ) (cs : List ℕ) → Ready (p .head .variables) p (now (first .entry)) (now (work .entry)) is ts ws cs → record { reached = progressOf (r .progress) (now (first .exit)) (now (work .entry)) is ts ws cs; stop = stopOf (r .turn) } ≡ after (progressOf p (now (first .entry)) (now (work .entry)) is ts ws cs) (onChoice (progressOf p (now (first .entry)) (now (work .entry)) is ts ws cs))) ⌝ }
-    ensures ready { λ r. ⌜ ((is ts : List ℕ) (ws : List ℤ) (cs : List ℕ) → Ready (p .head .variables) p (now (first .entry)) (now (work .entry)) is ts ws cs → Ready (p .head .variables) (r .progress) (now (first .exit)) (now (work .entry)) is ts ws cs) ⌝ }
+    ensures step { λ r. ⌜ Does onChoice p (now (first .entry)) (now (work .entry)) r (now (first .exit)) (now (work .entry)) ⌝ }
+    ensures ready { λ r. ⌜ StaysReady p (now (first .entry)) (now (work .entry)) r (now (first .exit)) (now (work .entry)) ⌝ }
 {
     if !is_going(p) {
         return refused(p, Reason::Misplaced);
@@ -144,7 +145,7 @@ pub fn on_choice(p: Progress, first: &mut [u32], work: &[u32]) -> Step
     }
     let count = p.work;
     write(first, 0, &work[..count]);
-    accepted(p, 1, true, count, 0, p.head)
+    accepted(p, 1, true, count, Polynomial::ZERO.count, p.head)
 }
 
 // S, P: a step of f with the work polynomial; both are cleared.
@@ -159,9 +160,10 @@ pub fn on_step(
     counts: &mut [u32],
     rule: Rule,
 ) -> Step
-    requires { ⌜ (p .at < length (now bytes)) × Ready (p .head .variables) p (now first) (now work) (now index) (now terms) (now weights) (now counts) ⌝ }
-    ensures step { λ r. ⌜ record { reached = progressOf (r .progress) (now (first .entry)) (now (work .entry)) (now (index .exit)) (now (terms .exit)) (now (weights .exit)) (now (counts .exit)); stop = stopOf (r .turn) } ≡ after (progressOf p (now (first .entry)) (now (work .entry)) (now (index .entry)) (now (terms .entry)) (now (weights .entry)) (now (counts .entry))) (onStep rule (now (bytes .entry)) (progressOf p (now (first .entry)) (now (work .entry)) (now (index .entry)) (now (terms .entry)) (now (weights .entry)) (now (counts .entry)))) ⌝ }
-    ensures ready { λ r. ⌜ Ready (p .head .variables) (r .progress) (now (first .entry)) (now (work .entry)) (now (index .exit)) (now (terms .exit)) (now (weights .exit)) (now (counts .exit)) ⌝ }
+    requires { ⌜ (p .at < length (now bytes)) × ReadyAt (p .head .variables) p first work index terms weights counts ⌝ }
+    ensures step { λ r. let q = progressBefore p first work index terms weights counts in
+        ⌜ leftAfter r first work index terms weights counts ≡ after q (onStep rule (now (bytes .entry)) q) ⌝ }
+    ensures ready { λ r. ⌜ ReadyAfter (p .head .variables) (r .progress) first work index terms weights counts ⌝ }
 {
     if !is_going(p) {
         return refused(p, Reason::Misplaced);
@@ -194,7 +196,8 @@ pub fn on_step(
     if let calculus::Answer::Refused(_, reason) = answer {
         return refused(p, reason);
     }
-    accepted(p, 9, false, 0, 0, left)
+    let cleared = Polynomial::ZERO.count;
+    accepted(p, 9, false, cleared, cleared, left)
 }
 
 // Whether a claim is from 0 to 10^12.
@@ -210,7 +213,7 @@ fn claim_fits(claim: i64) -> bool
 // An accepted claim: the record is the last.
 fn closed_with(p: Progress, claim: i64) -> Step
     requires { ⌜ (p .at + 9 < 18446744073709551616) × (p .records < 18446744073709551615) ⌝ }
-    ensures { λ r. ⌜ r ≡ record { progress = record { at = p .at + 9; records = p .records + 1; started = p .started; mode = p .mode; chosen = p .chosen; first = p .first; work = p .work; head = p .head; closed = true; claim = claim }; turn = Turn.Accepted } ⌝ }
+    ensures { λ r. ⌜ r ≡ record { progress = closing p claim; turn = Turn.Accepted } ⌝ }
 {
     let mode = p.mode;
     let head = p.head;
@@ -233,8 +236,8 @@ fn closed_with(p: Progress, claim: i64) -> Step
 
 // The weight of the polynomial 1.
 fn weight_of_one(head: Head, index: &[u64], terms: &[u32], weights: &[i64], counts: &[u32]) -> i64
-    requires { ⌜ Kept (length (now counts)) head (now index) (now terms) (now weights) (now counts) × T (formed (length (now counts)) (indexedOf head (now index) (now terms) (now weights) (now counts))) ⌝ }
-    ensures { λ r. ⌜ r ≡ weight (linesBy head (now (index .entry)) (now (terms .entry)) (now (weights .entry)) (now (counts .entry))) (0 ∷ []) ⌝ }
+    requires { let t = tableAt head index terms weights counts in ⌜ TableKept (tableCapacity t) t × T (tableFormed (tableCapacity t) t) ⌝ }
+    ensures { λ r. ⌜ r ≡ weight (tableLines (tableBefore head index terms weights counts)) ONE ⌝ }
 {
     let one = Polynomial::one();
     weight_of(
@@ -258,9 +261,10 @@ pub fn on_claim(
     weights: &[i64],
     counts: &[u32],
 ) -> Step
-    requires { ⌜ (p .at < length (now bytes)) × Ready (p .head .variables) p (now first) (now work) (now index) (now terms) (now weights) (now counts) ⌝ }
-    ensures step { λ r. ⌜ record { reached = progressOf (r .progress) (now (first .entry)) (now (work .entry)) (now (index .entry)) (now (terms .entry)) (now (weights .entry)) (now (counts .entry)); stop = stopOf (r .turn) } ≡ after (progressOf p (now (first .entry)) (now (work .entry)) (now (index .entry)) (now (terms .entry)) (now (weights .entry)) (now (counts .entry))) (onClaim (now (bytes .entry)) (progressOf p (now (first .entry)) (now (work .entry)) (now (index .entry)) (now (terms .entry)) (now (weights .entry)) (now (counts .entry)))) ⌝ }
-    ensures ready { λ r. ⌜ Ready (p .head .variables) (r .progress) (now (first .entry)) (now (work .entry)) (now (index .entry)) (now (terms .entry)) (now (weights .entry)) (now (counts .entry)) ⌝ }
+    requires { ⌜ (p .at < length (now bytes)) × ReadyAt (p .head .variables) p first work index terms weights counts ⌝ }
+    ensures step { λ r. let q = progressBefore p first work index terms weights counts in
+        ⌜ leftAfter r first work index terms weights counts ≡ after q (onClaim (now (bytes .entry)) q) ⌝ }
+    ensures ready { λ r. ⌜ ReadyAfter (p .head .variables) (r .progress) first work index terms weights counts ⌝ }
 {
     if !is_idle(p) {
         return refused(p, Reason::Misplaced);

@@ -14,6 +14,7 @@ use entry::on_mode;
 use entry::on_step;
 use entry::on_term;
 use entry::refused;
+use polynomial::Polynomial;
 use refusal::Reason;
 use term::degree;
 use walk::Turn;
@@ -23,11 +24,10 @@ ghost use mathlib.Core.List.{List};
 ghost use Prim.Native.Nat.{ℕ, _<_};
 ghost use lib.Dec.{T};
 ghost use lib.ListN.{length};
-ghost use Rattle.configuration.specs.Memory.{memoryOf, wellFormed};
-ghost use Rattle.configuration.specs.Index.{indexedOf, linesBy, Kept};
-ghost use Rattle.walk.specs.Walk.{nothing, refusedFor, stopOf, after};
+ghost use Rattle.configuration.specs.Table.{tableAt, tableBefore, tableAfter, memoryBefore, memoryAfter, tableMemory, tableLines, TableKept, tableWellFormed};
+ghost use Rattle.walk.specs.Walk.{nothing, refusedFor, after};
 ghost use Rattle.derivation.specs.Derivation.{onRecord, degreeIn, toldOf, verdict, leftOf, checked, checkDerivation};
-ghost use Rattle.derivation.specs.Held.{progressOf, Ready};
+ghost use Rattle.derivation.specs.Held.{progressIn, ReadyAt, ReadyAfter, progressBefore, leftAfter};
 
 // What a check answers: the claim and the degree, or a refusal with the record that it names, 0 where the lent areas are
 // refused, and its reason.
@@ -76,9 +76,10 @@ fn on_record(
     weights: &mut [i64],
     counts: &mut [u32],
 ) -> Step
-    requires { ⌜ (p .at < length (now bytes)) × Ready (p .head .variables) p (now first) (now work) (now index) (now terms) (now weights) (now counts) ⌝ }
-    ensures step { λ r. ⌜ record { reached = progressOf (r .progress) (now (first .exit)) (now (work .exit)) (now (index .exit)) (now (terms .exit)) (now (weights .exit)) (now (counts .exit)); stop = stopOf (r .turn) } ≡ after (progressOf p (now (first .entry)) (now (work .entry)) (now (index .entry)) (now (terms .entry)) (now (weights .entry)) (now (counts .entry))) (onRecord (p .head .variables) (now (bytes .entry)) (progressOf p (now (first .entry)) (now (work .entry)) (now (index .entry)) (now (terms .entry)) (now (weights .entry)) (now (counts .entry)))) ⌝ }
-    ensures ready { λ r. ⌜ Ready (p .head .variables) (r .progress) (now (first .exit)) (now (work .exit)) (now (index .exit)) (now (terms .exit)) (now (weights .exit)) (now (counts .exit)) ⌝ }
+    requires { ⌜ (p .at < length (now bytes)) × ReadyAt (p .head .variables) p first work index terms weights counts ⌝ }
+    ensures step { λ r. let q = progressBefore p first work index terms weights counts in
+        ⌜ leftAfter r first work index terms weights counts ≡ after q (onRecord (p .head .variables) (now (bytes .entry)) q) ⌝ }
+    ensures ready { λ r. ⌜ ReadyAfter (p .head .variables) (r .progress) first work index terms weights counts ⌝ }
 {
     let at = p.at;
     let kind = bytes[at];
@@ -128,8 +129,8 @@ fn on_record(
 
 // The degree of a configuration: that of the first term of its first line, since lines and terms stand in order.
 fn degree_of(head: Head, index: &[u64], terms: &[u32], weights: &[i64], counts: &[u32]) -> u32
-    requires { ⌜ Kept 128 head (now index) (now terms) (now weights) (now counts) × T (wellFormed (indexedOf head (now index) (now terms) (now weights) (now counts))) ⌝ }
-    ensures { λ r. ⌜ r ≡ degreeIn (linesBy head (now (index .entry)) (now (terms .entry)) (now (weights .entry)) (now (counts .entry))) ⌝ }
+    requires { let t = tableAt head index terms weights counts in ⌜ TableKept 128 t × T (tableWellFormed t) ⌝ }
+    ensures { λ r. ⌜ r ≡ degreeIn (tableLines (tableBefore head index terms weights counts)) ⌝ }
 {
     if head.lines == 0 {
         return 0;
@@ -140,8 +141,9 @@ fn degree_of(head: Head, index: &[u64], terms: &[u32], weights: &[i64], counts: 
 
 // The end of the bytes: B must have come.
 fn finish(p: Progress, index: &[u64], terms: &[u32], weights: &[i64], counts: &[u32]) -> Answer
-    requires { ⌜ Kept 128 (p .head) (now index) (now terms) (now weights) (now counts) × T (wellFormed (indexedOf (p .head) (now index) (now terms) (now weights) (now counts))) × (p .records < 18446744073709551615) ⌝ }
-    ensures { λ r. ⌜ ((fs us : List ℕ) → toldOf r ≡ verdict (progressOf p fs us (now (index .entry)) (now (terms .entry)) (now (weights .entry)) (now (counts .entry))) (cond (p .closed) nothing (refusedFor 15))) ⌝ }
+    requires { let t = tableAt (p .head) index terms weights counts in ⌜ TableKept 128 t × T (tableWellFormed t) × (p .records < 18446744073709551615) ⌝ }
+    ensures { λ r. let t = tableBefore (p .head) index terms weights counts in
+        ⌜ ((fs us : List ℕ) → toldOf r ≡ verdict (progressIn p fs us t) (cond (p .closed) nothing (refusedFor 15))) ⌝ }
 {
     if !p.closed {
         return Answer::Refused(p.records + 1, Reason::Unfinished);
@@ -160,20 +162,22 @@ fn read_records(
     weights: &mut [i64],
     counts: &mut [u32],
 ) -> Report
-    requires { ⌜ Kept 128 head (now index) (now terms) (now weights) (now counts) × T (wellFormed (indexedOf head (now index) (now terms) (now weights) (now counts))) ⌝ }
-    ensures left { λ r. ⌜ leftOf (indexedOf (r .head) (now (index .exit)) (now (terms .exit)) (now (weights .exit)) (now (counts .exit))) (r .answer) ≡ checked (now (bytes .entry)) (indexedOf head (now (index .entry)) (now (terms .entry)) (now (weights .entry)) (now (counts .entry))) ⌝ }
-    ensures kept { λ r. ⌜ Kept 128 (r .head) (now (index .exit)) (now (terms .exit)) (now (weights .exit)) (now (counts .exit)) ⌝ }
+    requires { let t = tableAt head index terms weights counts in ⌜ TableKept 128 t × T (tableWellFormed t) ⌝ }
+    ensures left { λ r. ⌜ leftOf (tableMemory (tableAfter (r .head) index terms weights counts)) (r .answer)
+        ≡ checked (now (bytes .entry)) (tableMemory (tableBefore head index terms weights counts)) ⌝ }
+    ensures kept { λ r. ⌜ TableKept 128 (tableAfter (r .head) index terms weights counts) ⌝ }
 {
-    let mut first = [0u32; 64];
-    let mut work = [0u32; 64];
+    let zero = Polynomial::ZERO;
+    let mut first = zero.terms;
+    let mut work = zero.terms;
     let mut p = Progress {
         at: 0,
         records: 0,
         started: false,
         mode: Mode::Plain,
         chosen: false,
-        first: 0,
-        work: 0,
+        first: zero.count,
+        work: zero.count,
         head,
         closed: false,
         claim: 0,
@@ -223,7 +227,8 @@ pub fn check_derivation(
     weights: &mut [i64],
     counts: &mut [u32],
 ) -> Report
-    ensures { λ r. ⌜ leftOf (memoryOf (r .head) (now (terms .exit)) (now (weights .exit)) (now (counts .exit))) (r .answer) ≡ checkDerivation (now (bytes .entry)) (memoryOf head (now (terms .entry)) (now (weights .entry)) (now (counts .entry))) ⌝ }
+    ensures { λ r. ⌜ leftOf (memoryAfter (r .head) terms weights counts) (r .answer)
+        ≡ checkDerivation (now (bytes .entry)) (memoryBefore head terms weights counts) ⌝ }
 {
     if terms.len() != 8192 {
         return turned_away(head, Reason::WrongLength);

@@ -1,8 +1,8 @@
 -- How code holds the progress of a filing: the lines in the lent areas, by an index, the work polynomial at the front of an area of 64 terms, the rest by value.
 use mathlib.Core.Path.{_≡_}
-use mathlib.Core.Bool.{not}
+use mathlib.Core.Bool.{true, not}
 use mathlib.Core.List.{List, []}
-use Prim.Native.Nat.{ℕ, _≤_}
+use Prim.Native.Nat.{ℕ, _+_, _≤_}
 use lib.Dec.{T}
 use lib.IntN.{ℤ}
 use lib.ListN.{length, take}
@@ -12,6 +12,7 @@ use Rattle.polynomial.specs.Polynomial.{ZERO}
 use Rattle.configuration.specs.Configuration.{isPolynomial}
 use Rattle.configuration.specs.Memory.{Memory, imageOf, wellFormed}
 use Rattle.configuration.specs.Index.{indexedOf, linesBy, Kept}
+use Rattle.configuration.specs.declared.Head.{Head}
 use Rattle.problem.specs.Problem.{State, lent}
 use Rattle.problem.specs.declared.Progress.{Progress}
 use Rattle.problem.specs.declared.Step.{Step}
@@ -32,6 +33,10 @@ progressOf p us is ts ws cs = record {
 -- what a record leaves: how far the filing has come, and what stops it
 abbrev pub leftBy : Step → List ℕ → List ℕ → List ℕ → List ℤ → List ℕ → W.Walked (W.Progress State)
 leftBy r us is ts ws cs = record { reached = progressOf (r .progress) us is ts ws cs; stop = W.stopOf (r .turn) }
+
+-- the progress after a record of so many bytes: the work polynomial has so many terms
+abbrev pub passed : Progress → ℕ → Head → ℕ → Progress
+passed p size head work = record { at = p .at + size; records = p .records + 1; started = true; head = head; work = work }
 
 -- what holds before each record; before V nothing is held
 pub record Ready (p : Progress) (us is ts : List ℕ) (ws : List ℤ) (cs : List ℕ) : Type 0 where

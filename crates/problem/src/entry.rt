@@ -17,7 +17,6 @@ use refusal::Reason;
 use walk::Turn;
 use walk::add_term;
 ghost use mathlib.Core.Path.{_≡_};
-ghost use mathlib.Core.Bool.{true};
 ghost use mathlib.Core.List.{List};
 ghost use Prim.Native.Nat.{ℕ, _+_, _≤_, _<_};
 ghost use lib.Dec.{T};
@@ -26,7 +25,7 @@ ghost use Rattle.configuration.specs.Configuration.{add as addTo, isPolynomial}
 ghost use Rattle.configuration.specs.Replacement.{within};
 ghost use Rattle.walk.specs.Walk.{after};
 ghost use Rattle.problem.specs.Problem.{weightFits, folded, onVariables, onTerm, onWeight, onClause};
-ghost use Rattle.problem.specs.Held.{Does, StaysReady, ReadyAt, ReadyAfter, progressBefore, leftAfter};
+ghost use Rattle.problem.specs.Held.{passed, Does, StaysReady, ReadyAt, ReadyAfter, progressBefore, leftAfter};
 
 // Whether a weight may be filed: from 1 to 1,000,000,000.
 fn weight_fits(weight: i64) -> bool
@@ -51,10 +50,7 @@ pub fn refused(p: Progress, reason: Reason) -> Step
 // An accepted record of so many bytes, which leaves a head and a work polynomial of so many terms.
 fn accepted(p: Progress, size: usize, head: Head, work: usize) -> Step
     requires { ⌜ (p .at + size < 18446744073709551616) × (p .records < 18446744073709551615) ⌝ }
-    ensures { λ r. ⌜ r ≡ record {
-      progress = record { at = p .at + size; records = p .records + 1; started = true; head = head; work = work };
-      turn = Turn.Accepted;
-    } ⌝ }
+    ensures { λ r. ⌜ r ≡ record { progress = passed p size head work; turn = Turn.Accepted } ⌝ }
 {
     Step {
         progress: Progress {

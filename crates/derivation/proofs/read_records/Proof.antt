@@ -24,11 +24,11 @@ abbrev μ-loop : tie.MeasureT-loop
 
 -- ---- one record
 abbrev start : tie.After-on-record Inv-loop μ-loop → tie.Start Inv-loop μ-loop
-start k = k .before .before .before .before .before .before .before .before .before .before .before .before .before .before
+start k = k .before .before .before .before .before .before .before .before .before .before .before .before .before .before .before .before
 
 loop-holds : tie.Need-loop-holds Inv-loop μ-loop
 loop-holds c =
-    let s = c .before .before .before .before in
+    let s = c .before .before .before .before .before .before in
     let a = s .args in
     let zeros : List ℕ = replicate 64 0 in (
       starts (now (a .bytes)) _ zeros zeros (now (a .index)) (now (a .terms)) (now (a .weights)) (now (a .counts)) (s .pre .0) (s .pre .1) refl refl refl refl refl refl,
@@ -52,8 +52,8 @@ on-record-requires c κs =
 enum-known-turn : tie.Need-enum-known-turn Inv-loop μ-loop
 enum-known-turn c = search needs
 
-add-t32 : tie.Need-add-t32 Inv-loop μ-loop
-add-t32 c =
+add-t34 : tie.Need-add-t34 Inv-loop μ-loop
+add-t34 c =
     let k = c .before .before .before .before .before .before .before .before .before .before .before .before .before .before .before in
     let l = k .before .before .before .before .before .before .before .before .before .loop in
     let s = start k .args in
@@ -137,7 +137,7 @@ same-length-8 c = search needs
 returns-2 : tie.Need-returns-2 Inv-loop μ-loop
 returns-2 c =
     let l = c .before .before .before .before .before .before .before .before .loop in
-    let s = c .before .before .before .before .before .before .before .before .before .before .before .before .before .args in (
+    let s = c .before .before .before .before .before .before .before .before .before .before .before .before .before .before .before .args in (
       ends-there (s .head .variables) (now (s .bytes)) _ (l .p) (l .first) (l .work) (l .index) (l .terms) (l .weights) (l .counts) (l .inv .0)
           (c .before .before .before .before .before .before .if1 .left) (c .finish .result) (c .finish .ensures (l .first) (l .work)),
       l .inv .0 .0 .kept,
@@ -154,7 +154,7 @@ read-records-spec =
     slice-aggregate-on-record-2
     on-record-requires
     enum-known-turn
-    add-t32
+    add-t34
     same-length
     same-length-2
     same-length-3

@@ -15,7 +15,7 @@ returns-2 : tie.Need-returns-2
 returns-2 c = rw (sym (c .before .before .is-going .ensures) ∙ not-false _ (c .before .if1 .left), c .if2 .taken)
 
 returns-3 : tie.Need-returns-3
-returns-3 c = rw (sym (c .before .before .before .is-going .ensures) ∙ not-false _ (c .before .before .if1 .left), c .before .if2 .left)
+returns-3 c = rw (sym (c .before .before .before .before .is-going .ensures) ∙ not-false _ (c .before .before .before .if1 .left), c .before .before .if2 .left)
 
 pub is-idle-spec : {M : Type 1} → statement M
 is-idle-spec = tie.close (tie.spec is-going-requires returns returns-2 returns-3)

@@ -1,7 +1,7 @@
 -- `on_claim` meets its contract: the claim's tests stand in the definition's order.
 use mathlib.Core.Path.{ap₂, subst, _≡_, sym, ap, _∙_}
 use mathlib.Core.Bool.{Bool, true, false, not, _&&_}
-use mathlib.Core.List.{List, [], _∷_}
+use mathlib.Core.List.{List}
 use Prim.Native.Nat.{ℕ, _+_, _≤_}
 use native.Mathlib.Omega.{arith}
 use lib.Dec.{leb→le, eqb}
@@ -16,8 +16,9 @@ use borrow.Author.Tests.{not-true, not-false}
 use borrow.Author.Needs.{needs}
 use Rattle.walk.specs.declared.Turn.the-variants.{Accepted, Refused}
 use Rattle.walk.proofs.Adds.{held-none}
+use Rattle.polynomial.specs.Polynomial.{ONE}
 use Rattle.configuration.specs.WeightLaws.{lower, not-lower}
-use Rattle.derivation.proofs.Entries.{left-by, closing, turned-down, table-kept, isIdle, claim-misplaced, claim-cut, claim-range, claim-negative, claim-high, claim-closed}
+use Rattle.derivation.proofs.Entries.{left-by, turned-down, table-kept, isIdle, claim-misplaced, claim-cut, claim-range, claim-negative, claim-high, claim-closed}
 use Rattle.run.specs.Boolean.{of-true}
 use Rattle.refusal.specs.declared.Reason.the-variants.{Misplaced, CutShort, OutOfRange, NegativeLine, ClaimTooHigh}
 use Rattle.configuration.specs.Configuration.{weight, anyNegative}
@@ -32,7 +33,7 @@ use Rattle.derivation.specs.Derivation.{State, claimFits, onClaim}
 use Rattle.refusal.specs.Refusal.{numberOf}
 use Rattle.refusal.specs.declared.Reason.{Reason}
 use Rattle.derivation.specs.declared.Step.{Step}
-use Rattle.derivation.specs.Held.{progressOf, Ready}
+use Rattle.derivation.specs.Held.{progressOf, Ready, closing}
 use Rattle.derivation.proofs.entry.on_claim.Statement.{statement}
 use Rattle.walk.specs.Walk as W
 use Rattle.derivation.proofs.entry.on_claim.Tie as tie
@@ -106,7 +107,7 @@ none : (w : tie.After-weight-of-one) → anyNegative (linesOf (memory (came (w .
 none w = let g = w .before .before in not-true (anyNegative _) (sym (signs g) ∙ not-false (g .none-negative .result) (w .before .if3 .left))
 
 weighed : (w : tie.After-weight-of-one)
-    → toZ w64 (ofZ w64 (w .weight-of-one .result)) ≡ weight (linesOf (memory (came (w .before .before .before .before .before)))) (0 ∷ [])
+    → toZ w64 (ofZ w64 (w .weight-of-one .result)) ≡ weight (linesOf (memory (came (w .before .before .before .before .before)))) ONE
 weighed w = toZ-ofZ {w = w64} {z = w .weight-of-one .result} (record { sfits = search needs }) ∙ w .weight-of-one .ensures
 
 is-idle-requires : tie.Need-is-idle-requires
@@ -202,11 +203,11 @@ returns-5 c =
     let s = came f in
     let a = s .args in
     let p = a .p in
-    let l : ltZ (weight (linesOf (memory s)) (0 ∷ [])) (claim f) ≡ true = sym (ap₂ ltZ (weighed w) (claim-is f)) ∙ c .before .if4 .taken in
+    let l : ltZ (weight (linesOf (memory s)) ONE) (claim f) ≡ true = sym (ap₂ ltZ (weighed w) (claim-is f)) ∙ c .before .if4 .taken in
     refuse s ClaimTooHigh (c .refused5 .result) (c .refused5 .ensures)
     (claim-high (bytes s) p (now (a .first)) (now (a .work)) (now (a .index)) (now (a .terms)) (now (a .weights)) (now (a .counts))
     (idle (f .before .before .before .before .before)) (claim f) (read f) (fits g) (none w)
-    (lower (weight (linesOf (memory s)) (0 ∷ [])) (claim f) l))
+    (lower (weight (linesOf (memory s)) ONE) (claim f) l))
 
 closed-with-requires : tie.Need-closed-with-requires
 closed-with-requires c κs =
@@ -225,10 +226,10 @@ returns-6 c =
     let s = came f in
     let a = s .args in
     let p = a .p in
-    let l : ltZ (weight (linesOf (memory s)) (0 ∷ [])) (claim f) ≡ false = sym (ap₂ ltZ (weighed w) (claim-is f)) ∙ c .before .if4 .left in
+    let l : ltZ (weight (linesOf (memory s)) ONE) (claim f) ≡ false = sym (ap₂ ltZ (weighed w) (claim-is f)) ∙ c .before .if4 .left in
     claim-closed (bytes s) p (now (a .first)) (now (a .work)) (now (a .index)) (now (a .terms)) (now (a .weights)) (now (a .counts))
     (idle (f .before .before .before .before .before)) (claim f) (read f) (fits g) (none w)
-    (not-lower (weight (linesOf (memory s)) (0 ∷ [])) (claim f) l)
+    (not-lower (weight (linesOf (memory s)) ONE) (claim f) l)
     (p .head .variables) (s .pre .1) (c .closed-with .result)
     (subst (λ (z : ℤ). c .closed-with .result ≡ record { progress = closing p z; turn = Accepted }) (claim-is f) (c .closed-with .ensures))
 

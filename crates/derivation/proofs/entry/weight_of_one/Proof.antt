@@ -1,13 +1,13 @@
 -- `weight_of_one` meets its contract: the constant ONE has the one term 1.
 use mathlib.Core.Path.{_≡_, sym, subst, ap, _∙_}
-use mathlib.Core.List.{List, [], _∷_}
+use mathlib.Core.List.{List}
 use Prim.Native.Nat.{ℕ}
 use lib.Dec.{T}
 use denote.Ref.{now}
 use mir.Syntax.{w64}
 use mir.Facts.{toZ-ofZ}
 use borrow.Author.Needs.{needs}
-use Rattle.polynomial.specs.Polynomial.{termsOf}
+use Rattle.polynomial.specs.Polynomial.{ONE, termsOf}
 use Rattle.configuration.specs.Configuration.{some, weight}
 use Rattle.configuration.specs.Index.{linesBy}
 use Rattle.derivation.proofs.entry.weight_of_one.Statement.{statement}
@@ -20,7 +20,7 @@ front-requires : tie.Need-front-requires
 front-requires c κs = search needs
 
 -- what is lent
-one-is : (c : tie.After-front) → now (c .front .result) ≡ 0 ∷ []
+one-is : (c : tie.After-front) → now (c .front .result) ≡ ONE
 one-is c = c .front .ensures ∙ ap termsOf (c .before .before .before .before .one .ensures)
 
 weight-of-requires : tie.Need-weight-of-requires
