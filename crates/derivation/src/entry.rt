@@ -239,7 +239,7 @@ fn weight_of_one(head: Head, index: &[u64], terms: &[u32], weights: &[i64], coun
     requires { let t = tableAt head index terms weights counts in ⌜ TableKept (tableCapacity t) t × T (tableFormed (tableCapacity t) t) ⌝ }
     ensures { λ r. ⌜ r ≡ weight (tableLines (tableBefore head index terms weights counts)) ONE ⌝ }
 {
-    let one = Polynomial::one();
+    let one = Polynomial::ONE;
     weight_of(
         head,
         index,
