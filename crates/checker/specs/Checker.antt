@@ -3,6 +3,8 @@
 use mathlib.Core.List.{List}
 use Prim.Native.Nat.{ℕ}
 use lib.IntN.{ℤ}
+use denote.Ref.{RefT, now}
+use denote.Triple.Both.{Both}
 use Rattle.calculus.specs.declared.Rule.{Rule}
 use Rattle.calculus.specs.declared.Mode.{Mode}
 use Rattle.configuration.specs.Memory.{linesOf}
@@ -45,6 +47,9 @@ checkIn s m = checkOn (D.checkDerivation s (runsOf m))
 -- ---- filing a problem, in lent areas that hold nothing yet
 abbrev pub lent : List ℕ → List Line → Memory
 lent ts t = record { variables = 0; lines = 0; terms = ts; table = t }
+
+abbrev pub lentBefore : {A B : Type 0} → Both (RefT (List ℕ)) A → Both (RefT (List Line)) B → Memory
+lentBefore ts t = lent (now (ts .entry)) (now (t .entry))
 
 abbrev pub fileLeft : Memory → P′.Answer → Left P.Told
 fileLeft m a = record { memory = m; told = P.toldOf a }

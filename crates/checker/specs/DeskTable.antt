@@ -7,7 +7,7 @@ use lib.IntN.{ℤ, pos, negsuc}
 use lib.Count.{ones}
 use Rattle.run.specs.Run.{toggleBy, normalBy, sorted}
 use Rattle.term.specs.Term.{before}
-use Rattle.polynomial.specs.Polynomial.{unions, factors, clauseOf, orderOf}
+use Rattle.polynomial.specs.Polynomial.{ZERO, ONE, unions, factors, clauseOf, orderOf}
 use Rattle.configuration.specs.Configuration.{Line, line, total, fold, add, addAll, negated, below, lineFits, linesFit, weightsFit, anyNegative}
 use Rattle.configuration.specs.Memory.{imageOf, readLines, rows, weightsOf, countsOf, zeros, zeroWeights, laidOut}
 use Rattle.configuration.specs.Replacement.{within}
@@ -31,9 +31,6 @@ x2 = 2 ∷ []
 
 abbrev x1x2 : List ℕ
 x1x2 = 3 ∷ []
-
-abbrev one : List ℕ
-one = 0 ∷ []
 
 -- two variables, and the lines in the written order
 abbrev holding : List Line → Memory
@@ -72,9 +69,9 @@ pub record DeskTable : Type 0 where
   -- clause x1, not x2, x3: x1*x2*x3 + x2*x3 + x1*x2 + x2
   pub row3 : clauseOf 5 2 ≡ 7 ∷ 6 ∷ 3 ∷ 2 ∷ []
   -- clause x1, not x1: 0, no line
-  pub row4 : (clauseOf 1 1 ≡ []) × ((w : ℤ) (L : List Line) → add (clauseOf 1 1) w L ≡ L)
+  pub row4 : (clauseOf 1 1 ≡ ZERO) × ((w : ℤ) (L : List Line) → add (clauseOf 1 1) w L ≡ L)
   -- the empty clause: 1
-  pub row5 : clauseOf 0 0 ≡ one
+  pub row5 : clauseOf 0 0 ≡ ONE
   -- x1 and x2 at 1 each, plain SUM 1: x1*x2 at 2, x2 + x1 at 1
   pub row6 : stepIn Sum Plain x1 x2 (pos 1) (holding (line x2 (pos 1) ∷ line x1 (pos 1) ∷ [])) ≡ makes (line x1x2 (pos 2) ∷ line (2 ∷ 1 ∷ []) (pos 1) ∷ [])
   -- x1 at 1, plain PROD by x2, 1: x1*x2 at 1, x1*x2 + x1 at 1
@@ -87,10 +84,10 @@ pub record DeskTable : Type 0 where
       × (checkIn (claiming 90 (number 0)) (holding (line x1x2 (pos 1) ∷ line (3 ∷ 1 ∷ []) (pos 1) ∷ line x1 (negsuc 0) ∷ []))
       ≡ answers (line x1x2 (pos 1) ∷ line (3 ∷ 1 ∷ []) (pos 1) ∷ line x1 (negsuc 0) ∷ []) (D.refusedAt 2 12))
   -- 1 at 2, claims 2, 3, 0, -1: confirmed, 13, confirmed, 8
-  pub row10 : (checkIn (claiming 78 (number 2)) (holding (line one (pos 2) ∷ [])) ≡ answers (line one (pos 2) ∷ []) (D.confirmed (pos 2) 0))
-      × (checkIn (claiming 78 (number 3)) (holding (line one (pos 2) ∷ [])) ≡ answers (line one (pos 2) ∷ []) (D.refusedAt 2 13))
-      × (checkIn (claiming 78 (number 0)) (holding (line one (pos 2) ∷ [])) ≡ answers (line one (pos 2) ∷ []) (D.confirmed (pos 0) 0))
-      × (checkIn (claiming 78 minusOne) (holding (line one (pos 2) ∷ [])) ≡ answers (line one (pos 2) ∷ []) (D.refusedAt 2 8))
+  pub row10 : (checkIn (claiming 78 (number 2)) (holding (line ONE (pos 2) ∷ [])) ≡ answers (line ONE (pos 2) ∷ []) (D.confirmed (pos 2) 0))
+      × (checkIn (claiming 78 (number 3)) (holding (line ONE (pos 2) ∷ [])) ≡ answers (line ONE (pos 2) ∷ []) (D.refusedAt 2 13))
+      × (checkIn (claiming 78 (number 0)) (holding (line ONE (pos 2) ∷ [])) ≡ answers (line ONE (pos 2) ∷ []) (D.confirmed (pos 0) 0))
+      × (checkIn (claiming 78 minusOne) (holding (line ONE (pos 2) ∷ [])) ≡ answers (line ONE (pos 2) ∷ []) (D.refusedAt 2 8))
   -- empty standing, signed SUM of x1 and x2, 10^12: refused 11
   pub row11 : stepIn Sum Signed x1 x2 (pos million²) (holding []) ≡ refuses [] 11
   -- the same with PROD: accepted

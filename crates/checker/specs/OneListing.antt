@@ -2,11 +2,12 @@
 -- of entry. Two accepted filings of one problem leave one head, one content of the term area and the table, one listing and one code.
 use mathlib.Core.Path.{_≡_, ap, _∙_}
 use mathlib.Core.Bool.{Bool, false, _&&_}
-use mathlib.Core.List.{List, []}
+use mathlib.Core.List.{List}
 use Prim.Native.Nat.{ℕ}
 use lib.Dec.{T, eqb, eqb→eq}
 use lib.ListN.{length, length-map}
 use Rattle.run.specs.Boolean.{of-true, left, right}
+use Rattle.polynomial.specs.Polynomial.{ZERO}
 use Rattle.configuration.specs.Configuration.{total}
 use Rattle.configuration.specs.Memory.{sized}
 use Rattle.configuration.specs.FormLaws.{sized-is}
@@ -45,7 +46,7 @@ seen a b e = record {
 -- if every polynomial function other than 0 has the same total weight among the entries of both
 pub one-listing : (s t : List ℕ) (m l : Memory) → T (sizedIn m) → T (sizedIn l) → fileIn s m .told ≡ filed → fileIn t l .told ≡ filed
     → fileIn s m .memory .variables ≡ fileIn t l .memory .variables
-    → ((f : List ℕ) → agrees (fileIn s m .memory .variables) f [] ≡ false
+    → ((f : List ℕ) → agrees (fileIn s m .memory .variables) f ZERO ≡ false
     → total (agrees (fileIn s m .memory .variables) f) (entries s) ≡ total (agrees (fileIn s m .memory .variables) f) (entries t))
     → OneFiling (fileIn s m) (fileIn t l)
 one-listing s t m l hm hl es et e h = seen (fileIn s m) (fileIn t l)

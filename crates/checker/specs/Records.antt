@@ -4,8 +4,11 @@ use mathlib.Core.Bool.{Bool}
 use mathlib.Core.List.{List, [], _∷_, map}
 use Prim.Native.Nat.{ℕ}
 use lib.IntN.{ℤ}
+use denote.Ref.{RefT, now}
+use denote.Triple.Both.{Both}
 use Rattle.configuration.specs.declared.Head.{Head}
 use Rattle.checker.specs.declared.Line.{Line}
+use Rattle.checker.specs.declared.table.Table.{Table}
 use Rattle.configuration.specs.Memory as M
 
 -- ---- a table of records as two runs of numbers, and back
@@ -29,6 +32,17 @@ pub record Memory : Type 0 where
 
 abbrev pub memoryOf : Head → List ℕ → List Line → Memory
 memoryOf h ts t = record { variables = h .variables; lines = h .lines; terms = ts; table = t }
+
+-- the same where the term area and the table are lent by reference: `memoryBefore` and `memoryAfter` are for what a function promises
+abbrev pub memoryBefore : {A B : Type 0} → Head → Both (RefT (List ℕ)) A → Both (RefT (List Line)) B → Memory
+memoryBefore h ts t = memoryOf h (now (ts .entry)) (now (t .entry))
+
+abbrev pub memoryAfter : {A B : Type 0} → Head → Both A (RefT (List ℕ)) → Both B (RefT (List Line)) → Memory
+memoryAfter h ts t = memoryOf h (now (ts .exit)) (now (t .exit))
+
+-- the memory of the crates below, where the table is its two runs by value
+abbrev pub runsWith : Head → List ℕ → Table → M.Memory
+runsWith h ts t = M.memoryOf h ts (t .weights) (t .counts)
 
 abbrev pub runsOf : Memory → M.Memory
 runsOf m = record { variables = m .variables; lines = m .lines; terms = m .terms; weights = weightsIn (m .table); counts = countsIn (m .table) }

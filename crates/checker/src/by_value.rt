@@ -47,7 +47,8 @@ pub fn take_step(
     g: &[u32],
     amount: i64,
 ) -> Step
-    ensures { λ r. ⌜ stepLeft (memoryOf (r .stepped .head) (now (terms .exit)) (r .lines)) (r .stepped .answer) ≡ stepIn rule mode (now (f .entry)) (now (g .entry)) amount (memoryOf head (now (terms .entry)) lines) ⌝ }
+    ensures { λ r. ⌜ stepLeft (memoryOf (r .stepped .head) (now (terms .exit)) (r .lines)) (r .stepped .answer)
+        ≡ stepIn rule mode (now (f .entry)) (now (g .entry)) amount (memoryOf head (now (terms .entry)) lines) ⌝ }
 {
     let mut lines = lines;
     let stepped = crate::take_step(head, terms, &mut lines, rule, mode, f, g, amount);
@@ -56,7 +57,8 @@ pub fn take_step(
 
 // Checks the derivation that the bytes are.
 pub fn check_derivation(bytes: &[u8], head: Head, terms: &mut [u32], lines: [Line; 128]) -> Check
-    ensures { λ r. ⌜ checkLeft (memoryOf (r .report .head) (now (terms .exit)) (r .lines)) (r .report .answer) ≡ checkIn (now (bytes .entry)) (memoryOf head (now (terms .entry)) lines) ⌝ }
+    ensures { λ r. ⌜ checkLeft (memoryOf (r .report .head) (now (terms .exit)) (r .lines)) (r .report .answer)
+        ≡ checkIn (now (bytes .entry)) (memoryOf head (now (terms .entry)) lines) ⌝ }
 {
     let mut lines = lines;
     let report = crate::check_derivation(bytes, head, terms, &mut lines);
@@ -65,7 +67,8 @@ pub fn check_derivation(bytes: &[u8], head: Head, terms: &mut [u32], lines: [Lin
 
 // Files the problem that the bytes are.
 pub fn file_problem(bytes: &[u8], terms: &mut [u32], lines: [Line; 128]) -> Filing
-    ensures { λ r. ⌜ fileLeft (memoryOf (r .report .head) (now (terms .exit)) (r .lines)) (r .report .answer) ≡ fileIn (now (bytes .entry)) (lent (now (terms .entry)) lines) ⌝ }
+    ensures { λ r. ⌜ fileLeft (memoryOf (r .report .head) (now (terms .exit)) (r .lines)) (r .report .answer)
+        ≡ fileIn (now (bytes .entry)) (lent (now (terms .entry)) lines) ⌝ }
 {
     let mut lines = lines;
     let report = crate::file_problem(bytes, terms, &mut lines);

@@ -5,8 +5,8 @@ use derivation::Answer;
 use derivation::Report;
 use refusal::Reason;
 ghost use mathlib.Core.Path.{_≡_};
-ghost use Rattle.configuration.specs.Memory.{memoryOf};
 ghost use Rattle.derivation.specs.Derivation.{leftOf, checkDerivation};
+ghost use Rattle.checker.specs.Records.{runsWith};
 
 // What a check leaves: the table, and the head with the answer.
 pub struct Done {
@@ -16,7 +16,8 @@ pub struct Done {
 
 // Checks the derivation that the bytes are.
 pub fn on_table(bytes: &[u8], head: Head, terms: &mut [u32], table: Table) -> Done
-    ensures { λ r. ⌜ leftOf (memoryOf (r .report .head) (now (terms .exit)) (r .table .weights) (r .table .counts)) (r .report .answer) ≡ checkDerivation (now (bytes .entry)) (memoryOf head (now (terms .entry)) (table .weights) (table .counts)) ⌝ }
+    ensures { λ r. ⌜ leftOf (runsWith (r .report .head) (now (terms .exit)) (r .table)) (r .report .answer)
+        ≡ checkDerivation (now (bytes .entry)) (runsWith head (now (terms .entry)) table) ⌝ }
 {
     let mut weights = table.weights;
     let mut counts = table.counts;

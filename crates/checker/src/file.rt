@@ -5,8 +5,8 @@ use problem::Answer;
 use problem::Report;
 use refusal::Reason;
 ghost use mathlib.Core.Path.{_≡_};
-ghost use Rattle.configuration.specs.Memory.{memoryOf};
 ghost use Rattle.problem.specs.Problem.{leftOf, lent, fileProblem};
+ghost use Rattle.checker.specs.Records.{runsWith};
 
 // What a filing leaves: the table, and the head with the answer.
 pub struct Done {
@@ -16,7 +16,8 @@ pub struct Done {
 
 // Files the problem that the bytes are.
 pub fn on_table(bytes: &[u8], terms: &mut [u32], table: Table) -> Done
-    ensures { λ r. ⌜ leftOf (memoryOf (r .report .head) (now (terms .exit)) (r .table .weights) (r .table .counts)) (r .report .answer) ≡ fileProblem (now (bytes .entry)) (lent (now (terms .entry)) (table .weights) (table .counts)) ⌝ }
+    ensures { λ r. ⌜ leftOf (runsWith (r .report .head) (now (terms .exit)) (r .table)) (r .report .answer)
+        ≡ fileProblem (now (bytes .entry)) (lent (now (terms .entry)) (table .weights) (table .counts)) ⌝ }
 {
     let mut weights = table.weights;
     let mut counts = table.counts;

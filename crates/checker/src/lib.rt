@@ -15,8 +15,8 @@ use table::load;
 use table::store;
 ghost use mathlib.Core.Path.{_≡_};
 ghost use Rattle.listing.specs.Listing.{toldOf};
-ghost use Rattle.checker.specs.Records.{memoryOf};
-ghost use Rattle.checker.specs.Checker.{stepLeft, stepIn, checkLeft, checkIn, lent, fileLeft, fileIn, writeIn};
+ghost use Rattle.checker.specs.Records.{memoryBefore, memoryAfter};
+ghost use Rattle.checker.specs.Checker.{stepLeft, stepIn, checkLeft, checkIn, lentBefore, fileLeft, fileIn, writeIn};
 
 // One line of the table: a weight and a count of terms.
 pub struct Line {
@@ -35,7 +35,8 @@ pub fn take_step(
     g: &[u32],
     amount: i64,
 ) -> Stepped
-    ensures { λ r. ⌜ stepLeft (memoryOf (r .head) (now (terms .exit)) (now (lines .exit))) (r .answer) ≡ stepIn rule mode (now (f .entry)) (now (g .entry)) amount (memoryOf head (now (terms .entry)) (now (lines .entry))) ⌝ }
+    ensures { λ r. ⌜ stepLeft (memoryAfter (r .head) terms lines) (r .answer)
+        ≡ stepIn rule mode (now (f .entry)) (now (g .entry)) amount (memoryBefore head terms lines) ⌝ }
 {
     if lines.len() != 128 {
         return step::unfit(head);
@@ -54,7 +55,7 @@ pub fn check_derivation(
     terms: &mut [u32],
     lines: &mut [Line],
 ) -> derivation::Report
-    ensures { λ r. ⌜ checkLeft (memoryOf (r .head) (now (terms .exit)) (now (lines .exit))) (r .answer) ≡ checkIn (now (bytes .entry)) (memoryOf head (now (terms .entry)) (now (lines .entry))) ⌝ }
+    ensures { λ r. ⌜ checkLeft (memoryAfter (r .head) terms lines) (r .answer) ≡ checkIn (now (bytes .entry)) (memoryBefore head terms lines) ⌝ }
 {
     if lines.len() != 128 {
         return check::unfit(head);
@@ -68,7 +69,7 @@ pub fn check_derivation(
 
 // Files the problem that the bytes are, in lent areas of any lengths and contents.
 pub fn file_problem(bytes: &[u8], terms: &mut [u32], lines: &mut [Line]) -> problem::Report
-    ensures { λ r. ⌜ fileLeft (memoryOf (r .head) (now (terms .exit)) (now (lines .exit))) (r .answer) ≡ fileIn (now (bytes .entry)) (lent (now (terms .entry)) (now (lines .entry))) ⌝ }
+    ensures { λ r. ⌜ fileLeft (memoryAfter (r .head) terms lines) (r .answer) ≡ fileIn (now (bytes .entry)) (lentBefore terms lines) ⌝ }
 {
     if lines.len() != 128 {
         return file::unfit();
@@ -88,7 +89,7 @@ pub fn write_line(
     lines: &[Line],
     number: usize,
 ) -> listing::Answer
-    ensures { λ r. ⌜ record { area = now (area .exit); told = toldOf r } ≡ writeIn number (memoryOf head (now (terms .entry)) (now (lines .entry))) (now (area .entry)) ⌝ }
+    ensures { λ r. ⌜ record { area = now (area .exit); told = toldOf r } ≡ writeIn number (memoryBefore head terms lines) (now (area .entry)) ⌝ }
 {
     if lines.len() != 128 {
         return write::unfit();

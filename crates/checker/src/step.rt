@@ -7,8 +7,8 @@ use calculus::Stepped;
 use configuration::Head;
 use refusal::Reason;
 ghost use mathlib.Core.Path.{_≡_};
-ghost use Rattle.configuration.specs.Memory.{memoryOf};
 ghost use Rattle.calculus.specs.Calculus.{leftOf, directStep};
+ghost use Rattle.checker.specs.Records.{runsWith};
 
 // What a step leaves: the table, and the head with the answer.
 pub struct Done {
@@ -27,7 +27,8 @@ pub fn on_table(
     g: &[u32],
     amount: i64,
 ) -> Done
-    ensures { λ r. ⌜ leftOf (memoryOf (r .stepped .head) (now (terms .exit)) (r .table .weights) (r .table .counts)) (r .stepped .answer) ≡ directStep rule mode (now (f .entry)) (now (g .entry)) amount (memoryOf head (now (terms .entry)) (table .weights) (table .counts)) ⌝ }
+    ensures { λ r. ⌜ leftOf (runsWith (r .stepped .head) (now (terms .exit)) (r .table)) (r .stepped .answer)
+        ≡ directStep rule mode (now (f .entry)) (now (g .entry)) amount (runsWith head (now (terms .entry)) table) ⌝ }
 {
     let mut weights = table.weights;
     let mut counts = table.counts;

@@ -1,5 +1,5 @@
-// The whole listing of records that are kept by value, and its code. Both are for the report, whose configurations are known
-// to be well formed.
+// The whole listing of records that are kept by value, and its code. Both are for `report`, whose configurations are known to be
+// well formed.
 use crate::Line;
 use crate::table::runs_of;
 use configuration::Head;

@@ -4,12 +4,12 @@ use configuration::Head;
 use listing::Answer;
 use refusal::Reason;
 ghost use mathlib.Core.Path.{_≡_};
-ghost use Rattle.configuration.specs.Memory.{memoryOf};
 ghost use Rattle.listing.specs.Listing.{toldOf, writeLine};
+ghost use Rattle.checker.specs.Records.{runsWith};
 
 // Writes the line of a number at the front of a lent area.
 pub fn from_table(area: &mut [u8], head: Head, terms: &[u32], table: Table, number: usize) -> Answer
-    ensures { λ r. ⌜ record { area = now (area .exit); told = toldOf r } ≡ writeLine number (memoryOf head (now (terms .entry)) (table .weights) (table .counts)) (now (area .entry)) ⌝ }
+    ensures { λ r. ⌜ record { area = now (area .exit); told = toldOf r } ≡ writeLine number (runsWith head (now (terms .entry)) table) (now (area .entry)) ⌝ }
 {
     let weights = table.weights;
     let counts = table.counts;
