@@ -110,7 +110,8 @@ fn read_records(
     counts: &mut [u32],
 ) -> Report
     requires { let t = tableAt head index terms weights counts in ⌜ TableKept 128 t × (tableMemory t ≡ imageOf 128 0 []) ⌝ }
-    ensures left { λ r. ⌜ leftOf (tableMemory (tableAfter (r .head) index terms weights counts)) (r .answer) ≡ leaves (readAll filing (now (bytes .entry)) empty) ⌝ }
+    ensures left { λ r. ⌜ leftOf (tableMemory (tableAfter (r .head) index terms weights counts)) (r .answer)
+        ≡ leaves (readAll filing (now (bytes .entry)) empty) ⌝ }
     ensures kept { λ r. ⌜ TableKept 128 (tableAfter (r .head) index terms weights counts) ⌝ }
 {
     let zero = Polynomial::ZERO;
