@@ -1,110 +1,87 @@
 // Refusals 10 and 11: more than 128 lines, and weights beyond 10^12.
-use crate::records::put_clauses;
-use crate::records::put_lines;
-use crate::records::put_variables;
-use crate::show::show_filing;
-use crate::show::show_step;
+use crate::desk::file_lines;
+use crate::operations::file;
+use crate::operations::step;
 use crate::state::State;
-use crate::state::no_lines;
-use calculus::Mode;
-use calculus::Rule;
+use crate::tally::Tally;
+use crate::text::put;
+use crate::text::put_again;
+use calculus::Mode::Plain;
+use calculus::Mode::Signed;
+use calculus::Rule::Prod;
+use calculus::Rule::Sum;
 
 // Steps in a table of 128 lines: one that takes a line away and brings one, and one that brings three.
-pub fn full_tables() {
-    let mut terms = [0u32; 8192];
-    let mut bytes = [0u8; 1794];
-    let line = put_variables(&mut bytes, 0, 8);
-    put_lines(&mut bytes, line, 128);
-    let filed = show_filing(b"128 lines", &bytes, &mut terms, no_lines());
-    let f = [1u32];
-    let g = [2u32];
-    let h = [129u32];
-    let full = show_step(
-        b"128 lines after it",
-        filed,
-        &mut terms,
-        Rule::Prod,
-        Mode::Plain,
-        &f,
-        &g,
-        1,
-    );
-    show_step(
-        b"131 lines after it",
-        full,
-        &mut terms,
-        Rule::Prod,
-        Mode::Signed,
-        &h,
-        &g,
-        1,
-    );
+pub fn full_tables(tally: Tally) -> Tally {
+    let mut s = file_lines(tally, b"128 lines", 128, b"accepted");
+    let due = b"accepted\nvariables 8\nlines 128\n1: x1*x2*x3*x4*x5*x6*x7\n\
+        2: x1*x2\n1: x1*x2 + x1\n1: x8\n1: x7\n1: x6\n1: x5\n1: x4\n1: x3\n1: x2\n";
+    s = step(s, b"128 lines after it", Prod, Plain, &[1], &[2], 1, due);
+    let due = b"refused 10 at record 0";
+    s = step(s, b"131 lines after it", Prod, Signed, &[129], &[2], 1, due);
+    s.tally
 }
 
-// A filing whose 1,001st clause would bring a weight beyond 10^12.
-fn one_clause_more() {
-    let mut terms = [0u32; 8192];
+// A filing whose 1,001st clause would bring a weight beyond 10^12: V 1; C 1, 0, weight 10^9 and so on.
+fn one_clause_more(tally: Tally) -> Tally {
+    let clause = b"C\x01\0\0\0\0\0\0\0\0\xca\x9a\x3b\0\0\0\0";
     let mut bytes = [0u8; 17019];
-    let clause = put_variables(&mut bytes, 0, 1);
-    put_clauses(&mut bytes, clause, 1, 1001);
-    show_filing(
-        b"a clause 1001 times at 10^9",
+    let first = put(&mut bytes, 0, b"V\x01");
+    put_again(&mut bytes, first, clause, 1001);
+    let what = b"a clause 1001 times at 10^9";
+    let due = b"refused 11 at record 1002\nvariables 1\nlines 1\n1000000000000: x1 + 1\n";
+    let s = file(State::of(tally, 0, 0, 0), what, &bytes, due);
+    s.tally
+}
+
+// Files x1 + 1 and x2 + 1 at 10^12 each: V 2; C 1, 0, weight 10^9 and C 2, 0, weight 10^9, both 1,000 times.
+fn two_lines(tally: Tally) -> State {
+    let one = b"C\x01\0\0\0\0\0\0\0\0\xca\x9a\x3b\0\0\0\0";
+    let two = b"C\x02\0\0\0\0\0\0\0\0\xca\x9a\x3b\0\0\0\0";
+    let mut bytes = [0u8; 34002];
+    let first = put(&mut bytes, 0, b"V\x02");
+    let second = put_again(&mut bytes, first, one, 1000);
+    put_again(&mut bytes, second, two, 1000);
+    let due = b"accepted\nvariables 2\nlines 2\n1000000000000: x2 + 1\n1000000000000: x1 + 1\n";
+    file(
+        State::of(tally, 0, 0, 0),
+        b"two lines at 10^12",
         &bytes,
-        &mut terms,
-        no_lines(),
-    );
+        due,
+    )
 }
 
 // A plain SUM of x1 + 1 and x2 + 1: their product gains twice the amount.
-fn sum(what: &[u8], state: State, terms: &mut [u32], amount: i64) -> State {
-    let f = [1u32, 0];
-    let g = [2u32, 0];
-    show_step(what, state, terms, Rule::Sum, Mode::Plain, &f, &g, amount)
+fn sum(state: State, what: &[u8], amount: i64, due: &[u8]) -> State {
+    step(state, what, Sum, Plain, &[1, 0], &[2, 0], amount, due)
 }
 
 // A signed PROD of x1 by x2: x1 loses the amount.
-fn prod(what: &[u8], state: State, terms: &mut [u32], amount: i64) -> State {
-    let f = [1u32];
-    let g = [2u32];
-    show_step(what, state, terms, Rule::Prod, Mode::Signed, &f, &g, amount)
+fn prod(state: State, what: &[u8], amount: i64, due: &[u8]) -> State {
+    step(state, what, Prod, Signed, &[1], &[2], amount, due)
 }
 
-// Plain steps up to the largest weight and beyond it.
-fn plain_steps(state: State, terms: &mut [u32]) -> State {
-    let a = sum(b"SUM, 10^12", state, terms, 1000000000000);
-    let b = sum(b"SUM, half + 1", a, terms, 500000000001);
-    let c = sum(b"SUM, half of it", b, terms, 500000000000);
-    sum(b"SUM, 1 more", c, terms, 1)
-}
-
-// A signed step that takes x1 from 0 to the least weight, and one beyond it.
-fn to_the_least(state: State, terms: &mut [u32]) -> State {
-    let a = prod(b"PROD, 10^12", state, terms, 1000000000000);
-    prod(b"PROD, 1 more", a, terms, 1)
-}
-
-// Signed steps that take x1 from there to the largest weight, and one beyond it.
-fn to_the_largest(state: State, terms: &mut [u32]) -> State {
-    let a = prod(b"PROD, -10^12", state, terms, -1000000000000);
-    let b = prod(b"PROD, again", a, terms, -1000000000000);
-    prod(b"PROD, -1 more", b, terms, -1)
-}
-
-// Steps between x1 + 1 and x2 + 1 at 10^12 each, both filed 1,000 times.
-fn steps_at_the_limit() {
-    let mut terms = [0u32; 8192];
-    let mut bytes = [0u8; 34002];
-    let first = put_variables(&mut bytes, 0, 2);
-    let second = put_clauses(&mut bytes, first, 1, 1000);
-    put_clauses(&mut bytes, second, 2, 1000);
-    let filed = show_filing(b"two lines at 10^12", &bytes, &mut terms, no_lines());
-    let full = plain_steps(filed, &mut terms);
-    let least = to_the_least(full, &mut terms);
-    to_the_largest(least, &mut terms);
-}
-
-// The filings and steps at the largest weights.
-pub fn largest_weights() {
-    one_clause_more();
-    steps_at_the_limit()
+// Plain steps up to the largest weight and beyond it. Then signed ones that take x1 from 0 to the least weight, from there to
+// the largest, and beyond each.
+pub fn largest_weights(tally: Tally) -> Tally {
+    let beyond = b"refused 11 at record 0";
+    let half = b"accepted\nvariables 2\nlines 4\n1000000000000: x1*x2 + x2 + x1 + 1\n\
+        500000000000: x2 + x1\n500000000000: x2 + 1\n500000000000: x1 + 1\n";
+    let least = b"accepted\nvariables 2\nlines 7\n1000000000000: x1*x2\n\
+        1000000000000: x1*x2 + x2 + x1 + 1\n1000000000000: x1*x2 + x1\n\
+        500000000000: x2 + x1\n500000000000: x2 + 1\n-1000000000000: x1\n500000000000: x1 + 1\n";
+    let largest = b"accepted\nvariables 2\nlines 7\n-1000000000000: x1*x2\n\
+        1000000000000: x1*x2 + x2 + x1 + 1\n-1000000000000: x1*x2 + x1\n\
+        500000000000: x2 + x1\n500000000000: x2 + 1\n1000000000000: x1\n500000000000: x1 + 1\n";
+    let mut s = two_lines(one_clause_more(tally));
+    s = sum(s, b"SUM, 10^12", 1000000000000, beyond);
+    s = sum(s, b"SUM, half + 1", 500000000001, beyond);
+    s = sum(s, b"SUM, half of it", 500000000000, half);
+    s = sum(s, b"SUM, 1 more", 1, beyond);
+    s = prod(s, b"PROD, 10^12", 1000000000000, least);
+    s = prod(s, b"PROD, 1 more", 1, beyond);
+    s = prod(s, b"PROD, -10^12", -1000000000000, half);
+    s = prod(s, b"PROD, again", -1000000000000, largest);
+    s = prod(s, b"PROD, -1 more", -1, beyond);
+    s.tally
 }

@@ -1,34 +1,29 @@
 // Works examples through the four open operations: the desk table's rows on filings, and every refusal that the programs
-// cannot meet. Each example prints a label, the answer, and what was lent as it is afterwards.
-mod code;
+// cannot meet. Each example has the text that must come out by document 01, which is compared with the one that does.
 mod desk;
-mod forms;
-mod lengths;
+mod lent;
 mod limits;
 mod lines;
 mod negative;
 mod operands;
-mod records;
-mod show;
+mod operations;
 mod state;
+mod tally;
+mod text;
 
-use desk::desk_rows;
-use forms::wrong_forms;
-use lengths::short_terms;
-use limits::full_tables;
-use limits::largest_weights;
-use lines::listing_lines;
-use negative::negative_lines;
-use operands::direct_steps;
+use tally::Tally;
 
 // All examples.
 fn main() {
-    desk_rows();
-    short_terms();
-    wrong_forms();
-    negative_lines();
-    direct_steps();
-    full_tables();
-    largest_weights();
-    listing_lines()
+    let mut tally = Tally::NONE;
+    tally = desk::rows(tally);
+    tally = lent::short_terms(tally);
+    tally = lent::wrong_forms(tally);
+    let two = operands::two_lines(tally);
+    tally = negative::lines(two);
+    tally = operands::refusals(two.at(tally));
+    tally = limits::full_tables(tally);
+    tally = limits::largest_weights(tally);
+    tally = lines::areas(tally);
+    tally.print()
 }

@@ -1,28 +1,107 @@
-// What the examples keep from one operation to the next.
+// What goes from one example to the next.
+use crate::tally::Tally;
+use crate::text::front;
 use checker::Line;
 use checker::by_value::all;
-use checker::by_value::file_problem;
 use configuration::Head;
 
-// A configuration's head and its line table. Its terms lie in an area that is lent.
+// The count of examples, and the configuration that the last one left.
 pub struct State {
+    pub tally: Tally,
     pub head: Head,
+    pub terms: [u32; 8192],
     pub lines: [Line; 128],
+    // How many places of the term area are lent.
+    pub places: usize,
 }
 
-// A table of zeros.
-pub fn no_lines() -> [Line; 128] {
-    all(Line {
-        weight: 0,
-        count: 0,
-    })
+// Whether two term areas have the same number at each place.
+fn same_terms(a: [u32; 8192], b: [u32; 8192]) -> bool {
+    let mut i: usize = 0;
+    while i < 8192 {
+        if a[i] != b[i] {
+            return false;
+        }
+        i += 1;
+    }
+    true
 }
 
-// Files a problem where no lines are.
-pub fn filed(bytes: &[u8], terms: &mut [u32]) -> State {
-    let filing = file_problem(bytes, terms, no_lines());
-    let lines = filing.lines;
-    let report = filing.report;
-    let head = report.head;
-    State { head, lines }
+// Whether two tables have the same record at each place.
+fn same_lines(a: [Line; 128], b: [Line; 128]) -> bool {
+    let mut i: usize = 0;
+    while i < 128 {
+        let x = a[i];
+        let y = b[i];
+        if x.weight != y.weight || x.count != y.count {
+            return false;
+        }
+        i += 1;
+    }
+    true
+}
+
+impl State {
+    // A head of so many variables and lines, over areas in which every number is the same.
+    pub fn of(tally: Tally, variables: u32, count: u32, fill: u32) -> State {
+        let head = Head {
+            variables,
+            lines: count,
+        };
+        let lines = all(Line {
+            weight: fill as i64,
+            count: fill,
+        });
+        State {
+            tally,
+            head,
+            terms: [fill; 8192],
+            lines,
+            places: 8192,
+        }
+    }
+
+    // The same configuration at another count of examples.
+    pub fn at(self, tally: Tally) -> State {
+        let mut state = self;
+        state.tally = tally;
+        state
+    }
+
+    // What an operation left.
+    pub fn left(self, head: Head, terms: [u32; 8192], lines: [Line; 128]) -> State {
+        let mut state = self;
+        state.head = head;
+        state.terms = terms;
+        state.lines = lines;
+        state
+    }
+
+    // With one example more, of which so many bytes are what came out.
+    pub fn judged(
+        self,
+        name: &[u8],
+        what: &[u8],
+        out: &mut [u8],
+        size: usize,
+        due: &[u8],
+    ) -> State {
+        let tally = self.tally;
+        let outcome = front(out, size);
+        self.at(tally.judge(name, what, outcome, due))
+    }
+
+    // Whether the configuration is the same: the head, and each place of the areas.
+    pub fn same(self, other: State) -> bool {
+        let head = self.head;
+        let terms = self.terms;
+        let lines = self.lines;
+        let a = other.head;
+        let b = other.terms;
+        let c = other.lines;
+        head.variables == a.variables
+            && head.lines == a.lines
+            && same_terms(terms, b)
+            && same_lines(lines, c)
+    }
 }

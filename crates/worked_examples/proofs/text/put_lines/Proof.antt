@@ -3,14 +3,14 @@ use mathlib.Core.Path.{_≡_}
 use Prim.Native.Nat.{_-_, _≤_}
 use lib.ListN.{length}
 use borrow.Author.Needs.{needs}
-use Rattle.worked_examples.proofs.records.put_lines.Statement.{statement}
-use Rattle.worked_examples.proofs.records.put_lines.Tie as tie
+use Rattle.worked_examples.proofs.text.put_lines.Statement.{statement}
+use Rattle.worked_examples.proofs.text.put_lines.Tie as tie
 
 abbrev Inv-loop : tie.InvT-loop
-Inv-loop out₀ at last end₀ mask₀ out end mask = (mask ≤ last) × (length out ≡ length out₀)
+Inv-loop out₀ at last end₀ mask₀ t8 out end mask = (mask ≤ last) × (length out ≡ length out₀)
 
 abbrev μ-loop : tie.MeasureT-loop
-μ-loop out₀ at last end₀ mask₀ out end mask = last - mask
+μ-loop out₀ at last end₀ mask₀ t8 out end mask = last - mask
 
 loop-holds : tie.Need-loop-holds Inv-loop μ-loop
 loop-holds c = search needs
@@ -18,11 +18,17 @@ loop-holds c = search needs
 add-mask : tie.Need-add-mask Inv-loop μ-loop
 add-mask c = search needs
 
-put-term-requires : tie.Need-put-term-requires Inv-loop μ-loop
-put-term-requires c κs = search needs
+put-byte-requires : tie.Need-put-byte-requires Inv-loop μ-loop
+put-byte-requires c κs = search needs
 
-put-amount-requires : tie.Need-put-amount-requires Inv-loop μ-loop
-put-amount-requires c κs = search needs
+put-byte-requires-2 : tie.Need-put-byte-requires-2 Inv-loop μ-loop
+put-byte-requires-2 c κs = search needs
+
+slice-aggregate-put : tie.Need-slice-aggregate-put Inv-loop μ-loop
+slice-aggregate-put c = search needs
+
+put-requires : tie.Need-put-requires Inv-loop μ-loop
+put-requires c κs = search needs
 
 loop-less : tie.Need-loop-less Inv-loop μ-loop
 loop-less c = search needs
@@ -44,8 +50,10 @@ put-lines-spec =
     μ-loop
     loop-holds
     add-mask
-    put-term-requires
-    put-amount-requires
+    put-byte-requires
+    put-byte-requires-2
+    slice-aggregate-put
+    put-requires
     loop-less
     loop-again
     same-length

@@ -1,22 +1,22 @@
--- `put_clauses` is sound: it puts one clause after the other, and they come to an end.
+-- `put_again` is sound: it puts the records one time after the other, and the times come to an end.
 use mathlib.Core.Path.{_≡_}
 use Prim.Native.Nat.{_-_, _≤_}
 use lib.ListN.{length}
 use borrow.Author.Needs.{needs}
-use Rattle.worked_examples.proofs.records.put_clauses.Statement.{statement}
-use Rattle.worked_examples.proofs.records.put_clauses.Tie as tie
+use Rattle.worked_examples.proofs.text.put_again.Statement.{statement}
+use Rattle.worked_examples.proofs.text.put_again.Tie as tie
 
 abbrev Inv-loop : tie.InvT-loop
-Inv-loop out₀ at plain times end₀ i₀ out end i = (i ≤ times) × (length out ≡ length out₀)
+Inv-loop out₀ at records times end₀ i₀ out end i = (i ≤ times) × (length out ≡ length out₀)
 
 abbrev μ-loop : tie.MeasureT-loop
-μ-loop out₀ at plain times end₀ i₀ out end i = times - i
+μ-loop out₀ at records times end₀ i₀ out end i = times - i
 
 loop-holds : tie.Need-loop-holds Inv-loop μ-loop
 loop-holds c = search needs
 
-put-clause-requires : tie.Need-put-clause-requires Inv-loop μ-loop
-put-clause-requires c κs = search needs
+put-requires : tie.Need-put-requires Inv-loop μ-loop
+put-requires c κs = search needs
 
 add-i : tie.Need-add-i Inv-loop μ-loop
 add-i c = search needs
@@ -33,14 +33,14 @@ same-length c = search needs
 returns : tie.Need-returns Inv-loop μ-loop
 returns c = search needs
 
-pub put-clauses-spec : {M : Type 1} → statement M
-put-clauses-spec =
+pub put-again-spec : {M : Type 1} → statement M
+put-again-spec =
     tie.close
     (tie.spec
     Inv-loop
     μ-loop
     loop-holds
-    put-clause-requires
+    put-requires
     add-i
     loop-less
     loop-again

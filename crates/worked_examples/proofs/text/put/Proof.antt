@@ -1,22 +1,22 @@
--- `put_number` is sound: it puts one byte after the other, and they come to an end.
+-- `put` is sound: it puts one byte after the other, and they come to an end.
 use mathlib.Core.Path.{_≡_}
 use Prim.Native.Nat.{_-_, _≤_}
 use lib.ListN.{length}
 use borrow.Author.Needs.{needs}
-use Rattle.worked_examples.proofs.records.put_number.Statement.{statement}
-use Rattle.worked_examples.proofs.records.put_number.Tie as tie
+use Rattle.worked_examples.proofs.text.put.Statement.{statement}
+use Rattle.worked_examples.proofs.text.put.Tie as tie
 
 abbrev Inv-loop : tie.InvT-loop
-Inv-loop out₀ at number bytes end₀ rest₀ i₀ out end rest i = (i ≤ bytes) × (length out ≡ length out₀)
+Inv-loop out₀ at text end₀ i₀ out end i = (i ≤ length text) × (length out ≡ length out₀)
 
 abbrev μ-loop : tie.MeasureT-loop
-μ-loop out₀ at number bytes end₀ rest₀ i₀ out end rest i = bytes - i
+μ-loop out₀ at text end₀ i₀ out end i = length text - i
 
 loop-holds : tie.Need-loop-holds Inv-loop μ-loop
 loop-holds c = search needs
 
-cast-put-byte : tie.Need-cast-put-byte Inv-loop μ-loop
-cast-put-byte c = search needs
+shared-slice-read-put-byte : tie.Need-shared-slice-read-put-byte Inv-loop μ-loop
+shared-slice-read-put-byte c = search needs
 
 put-byte-requires : tie.Need-put-byte-requires Inv-loop μ-loop
 put-byte-requires c κs = search needs
@@ -36,14 +36,14 @@ same-length c = search needs
 returns : tie.Need-returns Inv-loop μ-loop
 returns c = search needs
 
-pub put-number-spec : {M : Type 1} → statement M
-put-number-spec =
+pub put-spec : {M : Type 1} → statement M
+put-spec =
     tie.close
     (tie.spec
     Inv-loop
     μ-loop
     loop-holds
-    cast-put-byte
+    shared-slice-read-put-byte
     put-byte-requires
     add-i
     loop-less

@@ -1,0 +1,183 @@
+// Each open operation as an example: what it is, what it is given, and the text that is due. What comes out is the answer
+// and, unless all that was lent is as it was, what is left. So an answer alone says that nothing was changed.
+use crate::state::State;
+use crate::tally::same;
+use crate::text::front;
+use crate::text::lent;
+use crate::text::put;
+use crate::text::put_number;
+use calculus::Mode;
+use calculus::Rule;
+use checker::by_value::check_derivation;
+use checker::by_value::file_problem;
+use checker::by_value::take_step;
+use checker::by_value::write_line;
+use derivation::Answer;
+use derivation::Answer::Refused;
+use report::held;
+use report::verdict_line;
+use std::num::wrapping_add_usize;
+use std::num::wrapping_sub_usize;
+
+// A verdict, and so any refusal, at the front. What follows is written over its line end.
+fn put_verdict(out: &mut [u8], answer: Answer) -> usize {
+    let line = verdict_line(answer);
+    let size = held(line);
+    let text = line.bytes;
+    let end = put(out, 0, &text[..size]);
+    wrapping_sub_usize(end, 1)
+}
+
+// The answer of a filing, at the front.
+fn put_filed(out: &mut [u8], answer: problem::Answer) -> usize {
+    match answer {
+        problem::Answer::Filed => put(out, 0, b"accepted"),
+        problem::Answer::Refused(place, reason) => put_verdict(out, Refused(place, reason)),
+    }
+}
+
+// The answer of a step, at the front.
+fn put_taken(out: &mut [u8], answer: calculus::Answer) -> usize {
+    match answer {
+        calculus::Answer::Taken => put(out, 0, b"accepted"),
+        calculus::Answer::Refused(place, reason) => put_verdict(out, Refused(place, reason)),
+    }
+}
+
+// The answer of writing a line, at the front.
+fn put_written(out: &mut [u8], answer: listing::Answer) -> usize {
+    match answer {
+        listing::Answer::Written(size) => put_number(out, b"written ", size as u64),
+        listing::Answer::Refused(place, reason) => put_verdict(out, Refused(place, reason)),
+    }
+}
+
+// A line of the listing, or nothing where it is refused.
+fn put_line(out: &mut [u8], at: usize, state: State, number: usize) -> usize {
+    if out.len() < at {
+        return at;
+    }
+    let head = state.head;
+    let terms = state.terms;
+    let lines = state.lines;
+    let answer = write_line(&mut out[at..], head, &terms, lines, number);
+    match answer {
+        listing::Answer::Written(size) => wrapping_add_usize(at, size),
+        listing::Answer::Refused(_, _) => at,
+    }
+}
+
+// The listing: the header, the first line and the last nine, which are all where there are at most ten. The header is
+// refused where the configuration is not well formed, so that a listing says also that unused places are zero.
+fn put_listing(out: &mut [u8], at: usize, state: State) -> usize {
+    let head = state.head;
+    let lines = head.lines as usize;
+    let mut end = at;
+    let mut number: usize = 0;
+    while number <= lines {
+        let line = number;
+        number += 1;
+        if line < 2 || lines - line < 9 {
+            let next = put_line(out, end, state, line);
+            if next == end {
+                return put(out, end, b"not well formed\n");
+            }
+            end = next;
+        }
+    }
+    end
+}
+
+// What is left, behind the answer, unless all is as it was.
+fn put_left(out: &mut [u8], answer: usize, before: State, after: State) -> usize {
+    if before.same(after) {
+        return answer;
+    }
+    let first = put(out, answer, b"\n");
+    put_listing(out, first, after)
+}
+
+// Files a problem.
+pub fn file(before: State, what: &[u8], bytes: &[u8], due: &[u8]) -> State {
+    let mut terms = before.terms;
+    let lines = before.lines;
+    let filing = file_problem(bytes, lent(&mut terms, before.places), lines);
+    let lines = filing.lines;
+    let report = filing.report;
+    let head = report.head;
+    let answer = report.answer;
+    let after = before.left(head, terms, lines);
+    let mut out = [0u8; 4096];
+    let answered = put_filed(&mut out, answer);
+    let end = put_left(&mut out, answered, before, after);
+    after.judged(b"filing, ", what, &mut out, end, due)
+}
+
+// Takes a step.
+pub fn step(
+    before: State,
+    what: &[u8],
+    rule: Rule,
+    mode: Mode,
+    f: &[u32],
+    g: &[u32],
+    amount: i64,
+    due: &[u8],
+) -> State {
+    let head = before.head;
+    let mut terms = before.terms;
+    let lines = before.lines;
+    let area = lent(&mut terms, before.places);
+    let step = take_step(head, area, lines, rule, mode, f, g, amount);
+    let lines = step.lines;
+    let stepped = step.stepped;
+    let head = stepped.head;
+    let answer = stepped.answer;
+    let after = before.left(head, terms, lines);
+    let mut out = [0u8; 4096];
+    let answered = put_taken(&mut out, answer);
+    let end = put_left(&mut out, answered, before, after);
+    after.judged(b"step, ", what, &mut out, end, due)
+}
+
+// Checks a derivation.
+pub fn check(before: State, what: &[u8], bytes: &[u8], due: &[u8]) -> State {
+    let head = before.head;
+    let mut terms = before.terms;
+    let lines = before.lines;
+    let area = lent(&mut terms, before.places);
+    let check = check_derivation(bytes, head, area, lines);
+    let lines = check.lines;
+    let report = check.report;
+    let head = report.head;
+    let answer = report.answer;
+    let after = before.left(head, terms, lines);
+    let mut out = [0u8; 4096];
+    let answered = put_verdict(&mut out, answer);
+    let end = put_left(&mut out, answered, before, after);
+    after.judged(b"derivation, ", what, &mut out, end, due)
+}
+
+// What is left of 32 dots, behind the answer, unless all are there.
+fn put_area(out: &mut [u8], answer: usize, area: &[u8]) -> usize {
+    if same(area, b"................................") {
+        return answer;
+    }
+    let first = put(out, answer, b"\n");
+    put(out, first, area)
+}
+
+// Writes a line of the listing at the front of 32 dots, of which so many are lent.
+pub fn line(state: State, what: &[u8], size: usize, number: usize, due: &[u8]) -> State {
+    let head = state.head;
+    let mut terms = state.terms;
+    let lines = state.lines;
+    let mut area = [b'.'; 32];
+    let text = front(&mut area, size);
+    let masks = lent(&mut terms, state.places);
+    let answer = write_line(text, head, masks, lines, number);
+    let mut out = [0u8; 64];
+    let answered = put_written(&mut out, answer);
+    let end = put_area(&mut out, answered, &area);
+    state.judged(b"line, ", what, &mut out, end, due)
+}
