@@ -5,5 +5,6 @@ pub mod CostRule
 pub mod OneListing
 pub mod LeftForm
 pub mod Lengths
+pub mod Refused
 pub mod StepTests
 pub mod DeskTable
