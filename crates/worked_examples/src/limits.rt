@@ -43,12 +43,8 @@ fn two_lines(tally: Tally) -> State {
     let second = put_again(&mut bytes, first, one, 1000);
     put_again(&mut bytes, second, two, 1000);
     let due = b"accepted\nvariables 2\nlines 2\n1000000000000: x2 + 1\n1000000000000: x1 + 1\n";
-    file(
-        State::of(tally, 0, 0, 0),
-        b"two lines at 10^12",
-        &bytes,
-        due,
-    )
+    let blank = State::of(tally, 0, 0, 0);
+    file(blank, b"two lines at 10^12", &bytes, due)
 }
 
 // A plain SUM of x1 + 1 and x2 + 1: their product gains twice the amount.

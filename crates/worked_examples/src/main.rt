@@ -1,7 +1,7 @@
 // Works examples through the four open operations: the desk table's rows on filings, and every refusal that the programs
 // cannot meet. Each example has the text that must come out by document 01, which is compared with the one that does.
 mod desk;
-mod lent;
+mod lending;
 mod limits;
 mod lines;
 mod negative;
@@ -10,6 +10,7 @@ mod operations;
 mod state;
 mod tally;
 mod text;
+mod unfit;
 
 use tally::Tally;
 
@@ -17,8 +18,8 @@ use tally::Tally;
 fn main() {
     let mut tally = Tally::NONE;
     tally = desk::rows(tally);
-    tally = lent::short_terms(tally);
-    tally = lent::wrong_forms(tally);
+    tally = unfit::wrong_lengths(tally);
+    tally = unfit::wrong_forms(tally);
     let two = operands::two_lines(tally);
     tally = negative::lines(two);
     tally = operands::refusals(two.at(tally));

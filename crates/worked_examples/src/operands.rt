@@ -13,12 +13,8 @@ use calculus::Rule;
 pub fn two_lines(tally: Tally) -> State {
     let bytes = b"V\x07M\x01\0\0\0W\x03\0\0\0\0\0\0\0M\x02\0\0\0W\x02\0\0\0\0\0\0\0";
     let due = b"accepted\nvariables 7\nlines 2\n2: x2\n3: x1\n";
-    file(
-        State::of(tally, 0, 0, 0),
-        b"x1 at 3 and x2 at 2",
-        bytes,
-        due,
-    )
+    let blank = State::of(tally, 0, 0, 0);
+    file(blank, b"x1 at 3 and x2 at 2", bytes, due)
 }
 
 // A plain SUM, after which the configuration is taken as it was before; and so below.

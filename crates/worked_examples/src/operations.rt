@@ -1,23 +1,32 @@
 // Each open operation as an example: what it is, what it is given, and the text that is due. What comes out is the answer
 // and, unless all that was lent is as it was, what is left. So an answer alone says that nothing was changed.
+use crate::lending::check_derivation;
+use crate::lending::file_problem;
+use crate::lending::take_step;
+use crate::lending::write_line;
 use crate::state::State;
 use crate::tally::same;
 use crate::text::front;
-use crate::text::lent;
+use crate::text::front_terms;
 use crate::text::put;
 use crate::text::put_number;
 use calculus::Mode;
 use calculus::Rule;
-use checker::by_value::check_derivation;
-use checker::by_value::file_problem;
-use checker::by_value::take_step;
-use checker::by_value::write_line;
 use derivation::Answer;
 use derivation::Answer::Refused;
 use report::held;
 use report::verdict_line;
 use std::num::wrapping_add_usize;
 use std::num::wrapping_sub_usize;
+ghost use Prim.Native.Nat.{_≤_};
+
+// How many records are lent: no more than there are.
+fn rows_of(state: State) -> usize
+    ensures { λ r. ⌜ r ≤ 129 ⌝ }
+{
+    let rows = state.rows;
+    if rows < 129 { rows } else { 129 }
+}
 
 // A verdict, and so any refusal, at the front. What follows is written over its line end.
 fn put_verdict(out: &mut [u8], answer: Answer) -> usize {
@@ -60,7 +69,7 @@ fn put_line(out: &mut [u8], at: usize, state: State, number: usize) -> usize {
     let head = state.head;
     let terms = state.terms;
     let lines = state.lines;
-    let answer = write_line(&mut out[at..], head, &terms, lines, number);
+    let answer = write_line(&mut out[at..], head, &terms, lines, 128, number);
     match answer {
         listing::Answer::Written(size) => wrapping_add_usize(at, size),
         listing::Answer::Refused(_, _) => at,
@@ -97,20 +106,36 @@ fn put_left(out: &mut [u8], answer: usize, before: State, after: State) -> usize
     put_listing(out, first, after)
 }
 
+// The answer is there; what is left comes behind it, and the whole is compared with the text that is due.
+fn judged(
+    before: State,
+    after: State,
+    name: &[u8],
+    what: &[u8],
+    out: &mut [u8],
+    answer: usize,
+    due: &[u8],
+) -> State {
+    let tally = before.tally;
+    let end = put_left(out, answer, before, after);
+    let outcome = front(out, end);
+    after.at(tally.judge(name, what, outcome, due))
+}
+
 // Files a problem.
 pub fn file(before: State, what: &[u8], bytes: &[u8], due: &[u8]) -> State {
     let mut terms = before.terms;
     let lines = before.lines;
-    let filing = file_problem(bytes, lent(&mut terms, before.places), lines);
+    let area = front_terms(&mut terms, before.places);
+    let filing = file_problem(bytes, area, lines, rows_of(before));
     let lines = filing.lines;
     let report = filing.report;
     let head = report.head;
     let answer = report.answer;
     let after = before.left(head, terms, lines);
     let mut out = [0u8; 4096];
-    let answered = put_filed(&mut out, answer);
-    let end = put_left(&mut out, answered, before, after);
-    after.judged(b"filing, ", what, &mut out, end, due)
+    let end = put_filed(&mut out, answer);
+    judged(before, after, b"filing, ", what, &mut out, end, due)
 }
 
 // Takes a step.
@@ -127,17 +152,17 @@ pub fn step(
     let head = before.head;
     let mut terms = before.terms;
     let lines = before.lines;
-    let area = lent(&mut terms, before.places);
-    let step = take_step(head, area, lines, rule, mode, f, g, amount);
+    let area = front_terms(&mut terms, before.places);
+    let rows = rows_of(before);
+    let step = take_step(head, area, lines, rows, rule, mode, f, g, amount);
     let lines = step.lines;
     let stepped = step.stepped;
     let head = stepped.head;
     let answer = stepped.answer;
     let after = before.left(head, terms, lines);
     let mut out = [0u8; 4096];
-    let answered = put_taken(&mut out, answer);
-    let end = put_left(&mut out, answered, before, after);
-    after.judged(b"step, ", what, &mut out, end, due)
+    let end = put_taken(&mut out, answer);
+    judged(before, after, b"step, ", what, &mut out, end, due)
 }
 
 // Checks a derivation.
@@ -145,17 +170,16 @@ pub fn check(before: State, what: &[u8], bytes: &[u8], due: &[u8]) -> State {
     let head = before.head;
     let mut terms = before.terms;
     let lines = before.lines;
-    let area = lent(&mut terms, before.places);
-    let check = check_derivation(bytes, head, area, lines);
+    let area = front_terms(&mut terms, before.places);
+    let check = check_derivation(bytes, head, area, lines, rows_of(before));
     let lines = check.lines;
     let report = check.report;
     let head = report.head;
     let answer = report.answer;
     let after = before.left(head, terms, lines);
     let mut out = [0u8; 4096];
-    let answered = put_verdict(&mut out, answer);
-    let end = put_left(&mut out, answered, before, after);
-    after.judged(b"derivation, ", what, &mut out, end, due)
+    let end = put_verdict(&mut out, answer);
+    judged(before, after, b"derivation, ", what, &mut out, end, due)
 }
 
 // What is left of 32 dots, behind the answer, unless all are there.
@@ -168,16 +192,18 @@ fn put_area(out: &mut [u8], answer: usize, area: &[u8]) -> usize {
 }
 
 // Writes a line of the listing at the front of 32 dots, of which so many are lent.
-pub fn line(state: State, what: &[u8], size: usize, number: usize, due: &[u8]) -> State {
-    let head = state.head;
-    let mut terms = state.terms;
-    let lines = state.lines;
+pub fn line(before: State, what: &[u8], size: usize, number: usize, due: &[u8]) -> State {
+    let head = before.head;
+    let mut terms = before.terms;
+    let lines = before.lines;
     let mut area = [b'.'; 32];
     let text = front(&mut area, size);
-    let masks = lent(&mut terms, state.places);
-    let answer = write_line(text, head, masks, lines, number);
-    let mut out = [0u8; 64];
+    let masks = front_terms(&mut terms, before.places);
+    let rows = rows_of(before);
+    let answer = write_line(text, head, masks, lines, rows, number);
+    let after = before.left(head, terms, lines);
+    let mut out = [0u8; 4096];
     let answered = put_written(&mut out, answer);
     let end = put_area(&mut out, answered, &area);
-    state.judged(b"line, ", what, &mut out, end, due)
+    judged(before, after, b"line, ", what, &mut out, end, due)
 }

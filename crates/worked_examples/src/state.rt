@@ -1,8 +1,6 @@
 // What goes from one example to the next.
 use crate::tally::Tally;
-use crate::text::front;
 use checker::Line;
-use checker::by_value::all;
 use configuration::Head;
 
 // The count of examples, and the configuration that the last one left.
@@ -10,9 +8,10 @@ pub struct State {
     pub tally: Tally,
     pub head: Head,
     pub terms: [u32; 8192],
-    pub lines: [Line; 128],
-    // How many places of the term area are lent.
+    pub lines: [Line; 129],
+    // How many places of the term area are lent, and how many records.
     pub places: usize,
+    pub rows: usize,
 }
 
 // Whether two term areas have the same number at each place.
@@ -28,9 +27,9 @@ fn same_terms(a: [u32; 8192], b: [u32; 8192]) -> bool {
 }
 
 // Whether two tables have the same record at each place.
-fn same_lines(a: [Line; 128], b: [Line; 128]) -> bool {
+fn same_lines(a: [Line; 129], b: [Line; 129]) -> bool {
     let mut i: usize = 0;
-    while i < 128 {
+    while i < 129 {
         let x = a[i];
         let y = b[i];
         if x.weight != y.weight || x.count != y.count {
@@ -48,16 +47,17 @@ impl State {
             variables,
             lines: count,
         };
-        let lines = all(Line {
+        let line = Line {
             weight: fill as i64,
             count: fill,
-        });
+        };
         State {
             tally,
             head,
             terms: [fill; 8192],
-            lines,
+            lines: [line; 129],
             places: 8192,
+            rows: 128,
         }
     }
 
@@ -69,26 +69,12 @@ impl State {
     }
 
     // What an operation left.
-    pub fn left(self, head: Head, terms: [u32; 8192], lines: [Line; 128]) -> State {
+    pub fn left(self, head: Head, terms: [u32; 8192], lines: [Line; 129]) -> State {
         let mut state = self;
         state.head = head;
         state.terms = terms;
         state.lines = lines;
         state
-    }
-
-    // With one example more, of which so many bytes are what came out.
-    pub fn judged(
-        self,
-        name: &[u8],
-        what: &[u8],
-        out: &mut [u8],
-        size: usize,
-        due: &[u8],
-    ) -> State {
-        let tally = self.tally;
-        let outcome = front(out, size);
-        self.at(tally.judge(name, what, outcome, due))
     }
 
     // Whether the configuration is the same: the head, and each place of the areas.

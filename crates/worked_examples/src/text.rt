@@ -61,8 +61,8 @@ pub fn front(bytes: &mut [u8], size: usize) -> &mut [u8] {
     bytes
 }
 
-// The same of the numbers that a term area has.
-pub fn lent(terms: &mut [u32], size: usize) -> &mut [u32] {
+// The first places of a term area, as many as are asked for and there.
+pub fn front_terms(terms: &mut [u32], size: usize) -> &mut [u32] {
     if size <= terms.len() {
         return &mut terms[..size];
     }

@@ -5,10 +5,10 @@ use Rattle.worked_examples.proofs.state.same_lines.Statement.{statement
 use Rattle.worked_examples.proofs.state.same_lines.Tie as tie
 
 abbrev Inv-loop : tie.InvT-loop
-Inv-loop a b i₀ i = i ≤ 128
+Inv-loop a b i₀ i = i ≤ 129
 
 abbrev μ-loop : tie.MeasureT-loop
-μ-loop a b i₀ i = 128 - i
+μ-loop a b i₀ i = 129 - i
 
 loop-holds : tie.Need-loop-holds Inv-loop μ-loop
 loop-holds c = search needs

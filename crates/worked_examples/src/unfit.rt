@@ -1,5 +1,5 @@
-// Areas that no operation takes: refusal 1, of a term area that has another length than it must have, and refusal 2, of a
-// configuration that is not well formed. Nothing is changed.
+// Areas that no operation takes: refusal 1, of a term area or a table of another length than it must have, and refusal 2,
+// of a configuration that is not well formed. Nothing is changed.
 use crate::operations::check;
 use crate::operations::file;
 use crate::operations::line;
@@ -18,15 +18,26 @@ fn each_operation(state: State, what: &[u8], due: &[u8]) -> Tally {
     written.tally
 }
 
-// A term area that is too short. A filing gives no variables and no lines then.
-pub fn short_terms(tally: Tally) -> Tally {
+// Areas of which so many places and records are lent, under a head of so many variables and lines.
+fn lent(tally: Tally, count: u32, places: usize, rows: usize) -> State {
+    let mut state = State::of(tally, count, count, 5);
+    state.places = places;
+    state.rows = rows;
+    state
+}
+
+// Each operation on such areas. A filing gives no variables and no lines then.
+fn wrong_length(tally: Tally, what: &[u8], places: usize, rows: usize) -> Tally {
     let due = b"refused 1 at record 0";
-    let mut blank = State::of(tally, 0, 0, 5);
-    blank.places = 8191;
-    let filed = file(blank, b"8191 terms", b"V\x03", due);
-    let mut state = State::of(filed.tally, 3, 2, 5);
-    state.places = 8191;
-    each_operation(state, b"8191 terms", due)
+    let filed = file(lent(tally, 0, places, rows), what, b"V\x03", due);
+    each_operation(lent(filed.tally, 2, places, rows), what, due)
+}
+
+// A term area that is too short, a table that is, and one that is too long.
+pub fn wrong_lengths(tally: Tally) -> Tally {
+    let mut t = wrong_length(tally, b"8191 terms", 8191, 128);
+    t = wrong_length(t, b"127 records", 8192, 127);
+    wrong_length(t, b"129 records", 8192, 129)
 }
 
 // Areas of zeros under a head that says something else.

@@ -1,9 +1,9 @@
--- `lent` is sound: no more is lent than there is.
+-- `front_terms` is sound: no more is lent than there is.
 use mathlib.Core.Path.{sym}
 use lib.Seq.{length-take-le}
 use borrow.Author.Needs.{needs}
-use Rattle.worked_examples.proofs.text.lent.Statement.{statement}
-use Rattle.worked_examples.proofs.text.lent.Tie as tie
+use Rattle.worked_examples.proofs.text.front_terms.Statement.{statement}
+use Rattle.worked_examples.proofs.text.front_terms.Tie as tie
 
 slice-aggregate-result : tie.Need-slice-aggregate-result
 slice-aggregate-result c =
@@ -16,5 +16,5 @@ returns c = search needs
 returns-2 : tie.Need-returns-2
 returns-2 c = search needs
 
-pub lent-spec : {M : Type 1} → statement M
-lent-spec = tie.close (tie.spec slice-aggregate-result returns returns-2)
+pub front-terms-spec : {M : Type 1} → statement M
+front-terms-spec = tie.close (tie.spec slice-aggregate-result returns returns-2)
