@@ -8,7 +8,7 @@ use lib.Dec.{T, ltb, le→leb}
 use lib.IntN.{ℤ, pos, negsuc, _+ℤ_, negℤ, +ℤ-assoc, +ℤ-comm, +ℤ-idl, +ℤ-idr, negℤ-+ℤ}
 use lib.Signed.{_≤ℤ_, leZ, leZ-yes}
 use Rattle.run.specs.Boolean.{of-true, both, left, right, cond-ind}
-use Rattle.polynomial.specs.Polynomial.{eval, orderOf}
+use Rattle.polynomial.specs.Polynomial.{ONE, eval, orderOf}
 use Rattle.polynomial.specs.PolynomialLaws.{eval-one}
 use Rattle.polynomial.specs.OrderingLaws.{flip, order-flip, order-self, order-same, order-trans}
 use Rattle.polynomial.specs.declared.Ordering.{Ordering}
@@ -273,25 +273,25 @@ module _ (n : ℕ) where
   all-fit C L c h = fits (addAll C L) (all-ordered C L (fit-ordered L h)) (all-every (λ f. T (isPolynomial n f)) C L c (fit-every L h))
 
 -- ---- the bound: without negative weights no cost is below the weight of the polynomial 1
-one-value : (f : List ℕ) (α : ℕ) → T (same (0 ∷ []) f) → eval f α ≡ true
-one-value f α h = ap (λ (g : List ℕ). eval g α) (sym (same-is (0 ∷ []) f h)) ∙ eval-one α
+one-value : (f : List ℕ) (α : ℕ) → T (same ONE f) → eval f α ≡ true
+one-value f α h = ap (λ (g : List ℕ). eval g α) (sym (same-is ONE f h)) ∙ eval-one α
 
-surplus : (L : List Line) (α : ℕ) → anyNegative L ≡ false → (n : ℕ) × (cost L α ≡ weight L (0 ∷ []) +ℤ pos n)
+surplus : (L : List Line) (α : ℕ) → anyNegative L ≡ false → (n : ℕ) × (cost L α ≡ weight L ONE +ℤ pos n)
 unfolding total anyNegative
 surplus [] α h = (0, refl)
 surplus (line f (negsuc k) ∷ L) α h = absurd (true≢false h)
-surplus (line f (pos k) ∷ L) α h = go (surplus L α h) (same (0 ∷ []) f) refl (eval f α) refl
+surplus (line f (pos k) ∷ L) α h = go (surplus L α h) (same ONE f) refl (eval f α) refl
   where
-    go : (n : ℕ) × (cost L α ≡ weight L (0 ∷ []) +ℤ pos n) → (b : Bool) → same (0 ∷ []) f ≡ b → (x : Bool) → eval f α ≡ x
-        → (n : ℕ) × (share x (pos k) +ℤ cost L α ≡ share b (pos k) +ℤ weight L (0 ∷ []) +ℤ pos n)
+    go : (n : ℕ) × (cost L α ≡ weight L ONE +ℤ pos n) → (b : Bool) → same ONE f ≡ b → (x : Bool) → eval f α ≡ x
+        → (n : ℕ) × (share x (pos k) +ℤ cost L α ≡ share b (pos k) +ℤ weight L ONE +ℤ pos n)
     go r true e false d = absurd (true≢false (sym (one-value f α (of-true e)) ∙ d))
-    go r true e true d = (r .0, rw (r .1) (sym (+ℤ-assoc (pos k) (weight L (0 ∷ [])) (pos (r .0)))))
-    go r false e true d = (k + r .0, rw (r .1) (solve (weight L (0 ∷ []) ∷ pos k ∷ pos (r .0) ∷ []) (v 1 ⊞ (v 0 ⊞ v 2)) (o ⊞ v 0 ⊞ (v 1 ⊞ v 2)) tt))
-    go r false e false d = (r .0, rw (r .1) (sym (+ℤ-assoc (pos 0) (weight L (0 ∷ [])) (pos (r .0)))))
+    go r true e true d = (r .0, rw (r .1) (sym (+ℤ-assoc (pos k) (weight L ONE) (pos (r .0)))))
+    go r false e true d = (k + r .0, rw (r .1) (solve (weight L ONE ∷ pos k ∷ pos (r .0) ∷ []) (v 1 ⊞ (v 0 ⊞ v 2)) (o ⊞ v 0 ⊞ (v 1 ⊞ v 2)) tt))
+    go r false e false d = (r .0, rw (r .1) (sym (+ℤ-assoc (pos 0) (weight L ONE) (pos (r .0)))))
 
 pub le-add : (a : ℤ) (n : ℕ) → a ≤ℤ (a +ℤ pos n)
 le-add (pos a) n = leZ-yes (le→leb a (a + n) (omega arith))
 le-add (negsuc a) n = leZ-yes (cond-ind (ltb n (suc a)) (λ (z : ℤ). T (leZ (negsuc a) z)) (λ h. le→leb (suc a - suc n) a (omega arith)) (λ h. tt))
 
-pub bound : (L : List Line) (α : ℕ) → anyNegative L ≡ false → weight L (0 ∷ []) ≤ℤ cost L α
-bound L α h = rw (surplus L α h .1) (le-add (weight L (0 ∷ [])) (surplus L α h .0))
+pub bound : (L : List Line) (α : ℕ) → anyNegative L ≡ false → weight L ONE ≤ℤ cost L α
+bound L α h = rw (surplus L α h .1) (le-add (weight L ONE) (surplus L α h .0))

@@ -19,7 +19,7 @@ use Rattle.term.specs.TermLaws.{bit, sub-high, sub-low, value-bits, value-or, v
 use Rattle.run.specs.F2.{_⊕_, ⊕-false, ⊕-self}
 use Rattle.run.specs.Run.{StrictOrder, After, Sorted, All}
 use Rattle.run.specs.RunLaws.{all-append, after-append, normal-all, normal-sorted, length-normal, descends}
-use Rattle.polynomial.specs.Polynomial.{eval, normal, productOf, has, plainFactor, negatedFactor, factors, clauseOf, subsetsOf, metBy, met, Ordered, Uses, Below}
+use Rattle.polynomial.specs.Polynomial.{ONE, eval, normal, productOf, has, plainFactor, negatedFactor, factors, clauseOf, subsetsOf, metBy, met, Ordered, Uses, Below}
 use Rattle.polynomial.specs.PolynomialLaws.{written, eval-append, eval-normal, eval-times, eval-product, eval-one, product-ordered, product-uses, times-uses, uses-below, unique}
 
 -- ---- one variable of a mask
@@ -82,7 +82,7 @@ eval-plain : (i p α : ℕ) → eval (plainFactor i p) α ≡ unmetPlain i p α
 unfolding eval
 eval-plain i p α = go (has i p)
   where
-    go : (b : Bool) → eval (cond b (2 ^ i ∷ 0 ∷ []) (0 ∷ [])) α ≡ not (b && has i α)
+    go : (b : Bool) → eval (cond b (2 ^ i ∷ ONE) ONE) α ≡ not (b && has i α)
     go true = rw (value-variable i α, value-one α) (⊕-true (has i α))
     go false = eval-one α
 
@@ -90,7 +90,7 @@ eval-negated : (i n α : ℕ) → eval (negatedFactor i n) α ≡ unmetNegated i
 unfolding eval
 eval-negated i n α = go (has i n)
   where
-    go : (b : Bool) → eval (cond b (2 ^ i ∷ []) (0 ∷ [])) α ≡ not (b && not (has i α))
+    go : (b : Bool) → eval (cond b (2 ^ i ∷ []) ONE) α ≡ not (b && not (has i α))
     go true = rw (value-variable i α) (⊕-false (has i α) ∙ sym (Bool·not-not (has i α)))
     go false = eval-one α
 
@@ -135,7 +135,7 @@ within-low d m i l h = below-value d (2 ^ i) (pow-lt l)
 within-fewer : (d m k : ℕ) → Within (suc d) m k → Within d m k
 within-fewer d m k w i l h = w i (omega arith) h
 
-one-uses : (k : ℕ) → Uses k (0 ∷ [])
+one-uses : (k : ℕ) → Uses k ONE
 one-uses k = (of-true (value-one k), tt)
 
 factors-uses : (d p n k : ℕ) → Within d p k → Within d n k → Uses k (factors d p n)

@@ -17,7 +17,7 @@ use Rattle.term.specs.OrderLaws.{before-irrefl, before-trans, before-total, val
 use Rattle.run.specs.F2.{_⊕_, ⊕-assoc, ⊕-left, ⊕-cancel, ⊕-self, ⊕-zero, &&-⊕, ⊕-&&}
 use Rattle.run.specs.Run.{StrictOrder, toggleBy, normalBy, After, All, odd}
 use Rattle.run.specs.RunLaws.{odd-append, odd-normal, odd-unique, normal-all, normal-sorted, all-append}
-use Rattle.polynomial.specs.Polynomial.{eval, normal, unions, sumOf, productOf, Ordered, Uses, Below, termsOf, polynomialOf, firstLong, placed}
+use Rattle.polynomial.specs.Polynomial.{ONE, eval, normal, unions, sumOf, productOf, Ordered, Uses, Below, termsOf, polynomialOf, firstLong, placed}
 use Rattle.polynomial.specs.declared.Polynomial.{Polynomial}
 
 -- the written order is a strict total order
@@ -62,7 +62,7 @@ pub eval-product : (f g : List ℕ) (α : ℕ) → eval (productOf f g) α ≡ (
 eval-product f g α = eval-normal (unions f g) α ∙ eval-unions f g α
 
 -- the polynomial 1 is 1 everywhere
-pub eval-one : (α : ℕ) → eval (0 ∷ []) α ≡ true
+pub eval-one : (α : ℕ) → eval ONE α ≡ true
 unfolding eval
 eval-one α = ap (λ (x : Bool). x ⊕ false) (value-one α)
 
@@ -150,13 +150,13 @@ unique n f g s r a b h = odd-unique before written f g s r
     nought = zero-unique n (sumOf f g) (sum-ordered f g) (sum-below n f g a b) (λ α k. eval-sum f g α ∙ rw (h α k) (⊕-self (eval g α)))
 
 -- f (g + 1) is f g + f
-pub product-plus-one : (n : ℕ) (f g : List ℕ) → Below n f → Below n g → productOf f (sumOf g (0 ∷ [])) ≡ sumOf (productOf f g) f
+pub product-plus-one : (n : ℕ) (f g : List ℕ) → Below n f → Below n g → productOf f (sumOf g ONE) ≡ sumOf (productOf f g) f
 product-plus-one n f g a b = unique n (productOf f g₁) (sumOf (productOf f g) f) (product-ordered f g₁) (sum-ordered (productOf f g) f)
-    (product-below n f g₁ a (sum-below n g (0 ∷ []) b (pow-pos n, tt))) (sum-below n (productOf f g) f (product-below n f g a b) a)
-    (λ α k. eval-product f g₁ α ∙ rw (eval-sum g (0 ∷ []) α, eval-one α, eval-sum (productOf f g) f α, eval-product f g α) (at (eval f α) (eval g α)))
+    (product-below n f g₁ a (sum-below n g ONE b (pow-pos n, tt))) (sum-below n (productOf f g) f (product-below n f g a b) a)
+    (λ α k. eval-product f g₁ α ∙ rw (eval-sum g ONE α, eval-one α, eval-sum (productOf f g) f α, eval-product f g α) (at (eval f α) (eval g α)))
   where
     g₁ : List ℕ
-    g₁ = sumOf g (0 ∷ [])
+    g₁ = sumOf g ONE
 
     at : (x y : Bool) → (x && (y ⊕ true)) ≡ (x && y) ⊕ x
     at true true = refl
