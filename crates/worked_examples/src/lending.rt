@@ -1,5 +1,5 @@
 // The open operations on a table of any length up to 129: each holds 129 records for one operation, lends the first so
-// many of them, and gives all back.
+// many of them, and gives all back. They are for the examples, which ask for no more than there are.
 use calculus::Mode;
 use calculus::Rule;
 use calculus::Stepped;

@@ -57,8 +57,8 @@ fn prod(state: State, what: &[u8], amount: i64, due: &[u8]) -> State {
     step(state, what, Prod, Signed, &[1], &[2], amount, due)
 }
 
-// Plain steps up to the largest weight and beyond it. Then signed ones that take x1 from 0 to the least weight, from there to
-// the largest, and beyond each.
+// Plain steps up to the largest weight and beyond it. Then signed ones that take x1 from 0 to the least weight, from there
+// to the largest, and beyond each.
 pub fn largest_weights(tally: Tally) -> Tally {
     let beyond = b"refused 11 at record 0";
     let half = b"accepted\nvariables 2\nlines 4\n1000000000000: x1*x2 + x2 + x1 + 1\n\
