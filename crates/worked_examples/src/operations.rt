@@ -12,12 +12,9 @@ use crate::text::put;
 use crate::text::put_number;
 use calculus::Mode;
 use calculus::Rule;
-use derivation::Answer;
-use derivation::Answer::Refused;
-use report::held;
-use report::verdict_line;
+use refusal::Reason;
+use refusal::number;
 use std::num::wrapping_add_usize;
-use std::num::wrapping_sub_usize;
 ghost use Prim.Native.Nat.{_≤_};
 
 // How many records are lent: no more than there are.
@@ -28,20 +25,17 @@ fn rows_of(state: State) -> usize
     if rows < 129 { rows } else { 129 }
 }
 
-// A verdict, and so any refusal, at the front. What follows is written over its line end.
-fn put_verdict(out: &mut [u8], answer: Answer) -> usize {
-    let line = verdict_line(answer);
-    let size = held(line);
-    let text = line.bytes;
-    let end = put(out, 0, &text[..size]);
-    wrapping_sub_usize(end, 1)
+// A refusal, at the front.
+fn put_refusal(out: &mut [u8], place: u64, reason: Reason) -> usize {
+    let said = put_number(out, 0, b"refused ", number(reason) as u64);
+    put_number(out, said, b" at record ", place)
 }
 
 // The answer of a filing, at the front.
 fn put_filed(out: &mut [u8], answer: problem::Answer) -> usize {
     match answer {
         problem::Answer::Filed => put(out, 0, b"accepted"),
-        problem::Answer::Refused(place, reason) => put_verdict(out, Refused(place, reason)),
+        problem::Answer::Refused(place, reason) => put_refusal(out, place, reason),
     }
 }
 
@@ -49,15 +43,32 @@ fn put_filed(out: &mut [u8], answer: problem::Answer) -> usize {
 fn put_taken(out: &mut [u8], answer: calculus::Answer) -> usize {
     match answer {
         calculus::Answer::Taken => put(out, 0, b"accepted"),
-        calculus::Answer::Refused(place, reason) => put_verdict(out, Refused(place, reason)),
+        calculus::Answer::Refused(place, reason) => put_refusal(out, place, reason),
+    }
+}
+
+// A confirmation, at the front. No claim is negative.
+fn put_confirmed(out: &mut [u8], claim: i64, degree: u32) -> usize {
+    if 0 <= claim {
+        let said = put_number(out, 0, b"confirmed ", claim as u64);
+        return put_number(out, said, b" degree ", degree as u64);
+    }
+    put(out, 0, b"confirmed below 0")
+}
+
+// The answer of a check, at the front.
+fn put_checked(out: &mut [u8], answer: derivation::Answer) -> usize {
+    match answer {
+        derivation::Answer::Confirmed(claim, degree) => put_confirmed(out, claim, degree),
+        derivation::Answer::Refused(place, reason) => put_refusal(out, place, reason),
     }
 }
 
 // The answer of writing a line, at the front.
 fn put_written(out: &mut [u8], answer: listing::Answer) -> usize {
     match answer {
-        listing::Answer::Written(size) => put_number(out, b"written ", size as u64),
-        listing::Answer::Refused(place, reason) => put_verdict(out, Refused(place, reason)),
+        listing::Answer::Written(size) => put_number(out, 0, b"written ", size as u64),
+        listing::Answer::Refused(place, reason) => put_refusal(out, place, reason),
     }
 }
 
@@ -178,7 +189,7 @@ pub fn check(before: State, what: &[u8], bytes: &[u8], due: &[u8]) -> State {
     let answer = report.answer;
     let after = before.left(head, terms, lines);
     let mut out = [0u8; 4096];
-    let end = put_verdict(&mut out, answer);
+    let end = put_checked(&mut out, answer);
     judged(before, after, b"derivation, ", what, &mut out, end, due)
 }
 

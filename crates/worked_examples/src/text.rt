@@ -21,12 +21,12 @@ pub fn put(out: &mut [u8], at: usize, text: &[u8]) -> usize {
     end
 }
 
-// A text at the front, and a number in decimal behind it.
-pub fn put_number(out: &mut [u8], text: &[u8], n: u64) -> usize {
+// A text, and a number in decimal behind it.
+pub fn put_number(out: &mut [u8], at: usize, text: &[u8], n: u64) -> usize {
     let mut digits = [0u8; 20];
     let count = io::decimal(n, &mut digits);
-    let at = put(out, 0, text);
-    put(out, at, &digits[..count])
+    let end = put(out, at, text);
+    put(out, end, &digits[..count])
 }
 
 // The same records again and again.
