@@ -56,10 +56,14 @@ abbrev pub capacityOf : Table → ℕ
 capacityOf t = length (t .counts)
 
 -- ---- what holds of a table between one function and the next
+-- a fact of each entry
+abbrev pub Each : (ℕ → Type 0) → List ℕ → Type 0
+Each P [] = Unit {0}
+Each P (e ∷ is) = P e × Each P is
+
 -- no entry has the row r
 abbrev pub Misses : ℕ → List ℕ → Type 0
-Misses r [] = Unit {0}
-Misses r (e ∷ is) = (rowOf e ≡ r → ⊥) × Misses r is
+Misses r is = Each (λ e. rowOf e ≡ r → ⊥) is
 
 -- the rows are below c, and none comes twice
 abbrev pub Once : ℕ → List ℕ → Type 0
@@ -71,10 +75,9 @@ abbrev pub firstKey : List ℕ → ℕ
 firstKey [] = 0
 firstKey (t ∷ f) = keyOf t
 
--- each entry of a line has the key of the line's first term, and the line's row has a count of at most 64
-abbrev pub Entered : Table → List ℕ → Type 0
-Entered t [] = Unit {0}
-Entered t (e ∷ is) = (keyIn e ≡ firstKey (termsIn t (rowOf e))) × ((getD (t .counts) (rowOf e) 0 ≤ 64) × Entered t is)
+-- an entry has the key of the first term in its row, and the row's count is at most 64
+abbrev pub Entered : Table → ℕ → Type 0
+Entered t e = (keyIn e ≡ firstKey (termsIn t (rowOf e))) × (getD (t .counts) (rowOf e) 0 ≤ 64)
 
 pub record Fits (c : ℕ) (t : Table) : Type 0 where
   pub capacity : c ≤ 128
@@ -84,7 +87,7 @@ pub record Fits (c : ℕ) (t : Table) : Type 0 where
   pub weights-length : length (t .weights) ≡ c
   pub counts-length : length (t .counts) ≡ c
   pub once : Once c (t .order)
-  pub entered : Entered t (take (t .lines) (t .order))
+  pub entered : Each (Entered t) (take (t .lines) (t .order))
   pub ordered : Ordered (linesOf t)
 
 -- ---- keys

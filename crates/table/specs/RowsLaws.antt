@@ -1,0 +1,139 @@
+-- Laws of a table that fits: line i of it is the line in the row of entry i, and what holds of that row; and a fresh table, which holds no line.
+use mathlib.Core.Path.{_≡_, refl, sym, ap, _∙_}
+use mathlib.Core.List.{List, [], _∷_, _++_, map}
+use Prim.Native.Nat.{ℕ, zero, suc, _+_, _*_, _≤_, _<_}
+use native.Mathlib.Nat.{le-of-suc-le-suc, not-suc-le-zero}
+use native.Mathlib.Omega.{arith}
+use lib.Dec.{T}
+use lib.IntN.{ℤ, pos}
+use lib.ListN.{length, getD, take, drop, length-map}
+use lib.Seq.{getD-take, length-take-le}
+use Rattle.configuration.specs.Configuration.{Line, line, some, Ordered}
+use Rattle.table.specs.Rows.{Table, rowOf, keyIn, termsIn, lineIn, linesAt, linesOf, Each, Misses, Once, firstKey, Entered, Fits, inTurn}
+
+-- ---- what is made of each element of a list
+module _ {A B : Type 0} (f : A → B) where
+  pub map-append : (l m : List A) → map f (l ++ m) ≡ map f l ++ map f m
+  map-append [] m = refl
+  map-append (x ∷ l) m = ap (λ (r : List B). f x ∷ r) (map-append l m)
+
+  pub map-take : (n : ℕ) (l : List A) → map f (take n l) ≡ take n (map f l)
+  map-take zero l = refl
+  map-take (suc n) [] = refl
+  map-take (suc n) (x ∷ l) = ap (λ (r : List B). f x ∷ r) (map-take n l)
+
+  pub map-drop : (n : ℕ) (l : List A) → map f (drop n l) ≡ drop n (map f l)
+  map-drop zero l = refl
+  map-drop (suc n) [] = refl
+  map-drop (suc n) (x ∷ l) = map-drop n l
+
+  pub map-at : (i : ℕ) (l : List A) (z : A) (d : B) → i < length l → getD (map f l) i d ≡ f (getD l i z)
+  map-at i [] z d h = absurd (not-suc-le-zero h)
+  map-at zero (x ∷ l) z d h = refl
+  map-at (suc i) (x ∷ l) z d h = map-at i l z d (le-of-suc-le-suc h)
+
+-- ---- a fact of each entry
+module _ (P : ℕ → Type 0) where
+  pub each-append : (is js : List ℕ) → Each P is → Each P js → Each P (is ++ js)
+  each-append [] js a b = b
+  each-append (e ∷ is) js a b = (a .0, each-append is js (a .1) b)
+
+  pub each-front : (is js : List ℕ) → Each P (is ++ js) → Each P is
+  each-front [] js a = tt
+  each-front (e ∷ is) js a = (a .0, each-front is js (a .1))
+
+  pub each-rest : (is js : List ℕ) → Each P (is ++ js) → Each P js
+  each-rest [] js a = a
+  each-rest (e ∷ is) js a = each-rest is js (a .1)
+
+  pub each-take : (n : ℕ) (is : List ℕ) → Each P is → Each P (take n is)
+  each-take zero is a = tt
+  each-take (suc n) [] a = tt
+  each-take (suc n) (e ∷ is) a = (a .0, each-take n is (a .1))
+
+  pub each-drop : (n : ℕ) (is : List ℕ) → Each P is → Each P (drop n is)
+  each-drop zero is a = a
+  each-drop (suc n) [] a = tt
+  each-drop (suc n) (e ∷ is) a = each-drop n is (a .1)
+
+  pub each-at : (i : ℕ) (is : List ℕ) → Each P is → i < length is → P (getD is i 0)
+  each-at i [] a h = absurd (not-suc-le-zero h)
+  each-at zero (e ∷ is) a h = a .0
+  each-at (suc i) (e ∷ is) a h = each-at i is (a .1) (le-of-suc-le-suc h)
+
+once-each : (c : ℕ) (is : List ℕ) → Once c is → Each (λ e. rowOf e < c) is
+once-each c [] o = tt
+once-each c (e ∷ is) o = (o .0, once-each c is (o .1 .1))
+
+pub some-at : (t : Table) (i : ℕ) (is : List ℕ) → Ordered (linesAt t is) → i < length is → T (some (termsIn t (rowOf (getD is i 0))))
+some-at t i [] r h = absurd (not-suc-le-zero h)
+some-at t zero (e ∷ is) r h = r .0
+some-at t (suc i) (e ∷ is) r h = some-at t i is (r .1 .1 .1) (le-of-suc-le-suc h)
+
+-- ---- a table that fits
+module _ {c : ℕ} {t : Table} (q : Fits c t) where
+  pub lines-long : length (take (t .lines) (t .order)) ≡ t .lines
+  lines-long = length-take-le (t .lines) (t .order) (omega (arith, q .room, q .order-length))
+
+  pub length-lines : length (linesOf t) ≡ t .lines
+  length-lines = length-map (take (t .lines) (t .order)) (λ e. lineIn t (rowOf e)) ∙ lines-long
+
+  -- the row of an entry, also of one that no line has
+  pub row-below : (i : ℕ) → i < c → rowOf (getD (t .order) i 0) < c
+  row-below i h = each-at (λ e. rowOf e < c) i (t .order) (once-each c (t .order) (q .once)) (omega (arith, q .order-length))
+
+  -- line i
+  module _ (i : ℕ) (h : i < t .lines) where
+    abbrev r : ℕ
+    r = rowOf (getD (t .order) i 0)
+
+    entry-is : getD (take (t .lines) (t .order)) i 0 ≡ getD (t .order) i 0
+    entry-is = getD-take (t .lines) (t .order) i 0 h
+
+    pub line-at : (d : Line) → getD (linesOf t) i d ≡ lineIn t r
+    line-at d = map-at (λ e. lineIn t (rowOf e)) i (take (t .lines) (t .order)) 0 d (omega (arith, lines-long)) ∙ ap (λ (e : ℕ). lineIn t (rowOf e)) entry-is
+
+    pub entered-at : Entered t (getD (t .order) i 0)
+    entered-at = rw entry-is at (each-at (Entered t) i (take (t .lines) (t .order)) (q .entered) (omega (arith, lines-long)))
+
+    pub line-some : T (some (termsIn t r))
+    line-some = rw entry-is at (some-at t i (take (t .lines) (t .order)) (q .ordered) (omega (arith, lines-long)))
+
+    pub held-below : r < c
+    held-below = row-below i (omega (arith, q .room))
+
+    pub row-fits : 64 * r + getD (t .counts) r 0 ≤ length (t .terms)
+    row-fits = omega (arith, held-below, entered-at .1, q .terms-length)
+
+-- ---- a fresh table: each row has an entry, and none a line
+turn-misses : (r n i : ℕ) → r < i → i + n ≤ 128 → Misses r (inTurn n i)
+unfolding inTurn
+turn-misses r zero i h b = tt
+turn-misses r (suc n) i h b = let e : rowOf i ≡ i = omega arith in (λ x. omega arith, turn-misses r n (suc i) (omega arith) (omega arith))
+
+turn-once : (c n i : ℕ) → i + n ≤ c → c ≤ 128 → Once c (inTurn n i)
+unfolding inTurn
+turn-once c zero i h b = tt
+turn-once c (suc n) i h b =
+    let e : rowOf i ≡ i = omega arith in
+    rw e (omega arith, (turn-misses i n (suc i) (omega arith) (omega arith), turn-once c n (suc i) (omega arith) b))
+
+turn-length : (n i : ℕ) → length (inTurn n i) ≡ n
+unfolding inTurn
+turn-length zero i = refl
+turn-length (suc n) i = ap suc (turn-length n (suc i))
+
+-- it fits whatever the areas hold
+pub fresh-fits : (c : ℕ) (ts : List ℕ) (ws : List ℤ) (cs : List ℕ) → c ≤ 128 → length ts ≡ 64 * c → length ws ≡ c → length cs ≡ c
+    → Fits c (record { lines = 0; order = inTurn c 0; terms = ts; weights = ws; counts = cs })
+fresh-fits c ts ws cs b lt lw lc = record {
+  capacity = b;
+  room = omega arith;
+  order-length = turn-length c 0;
+  terms-length = lt;
+  weights-length = lw;
+  counts-length = lc;
+  once = turn-once c c 0 (omega arith) b;
+  entered = tt;
+  ordered = tt;
+}
