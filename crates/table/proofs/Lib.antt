@@ -1,3 +1,4 @@
 pub mod Keys
 pub mod Searches
 pub mod Places
+pub mod Changes

@@ -1,5 +1,5 @@
 -- What is known of a polynomial f among the lines of a table, by its place and whether it is held: its weight, and what folding it in does.
-use mathlib.Core.Path.{_≡_, sym, ap, _∙_}
+use mathlib.Core.Path.{_≡_, refl, sym, ap, _∙_}
 use mathlib.Core.Bool.{Bool, true, false, not}
 use mathlib.Core.List.{List, [], _∷_, _++_}
 use Prim.Native.Nat.{ℕ, suc, _+_, _≤_, _<_}
@@ -14,6 +14,11 @@ use Rattle.table.specs.Rows.{Table, rowOf, termsIn, linesOf, Fits}
 use Rattle.table.specs.RowsLaws.{length-lines, line-at}
 use Rattle.table.specs.HeldLaws.{held-line, fresh-line, held-weight}
 use Rattle.table.proofs.Searches.{none}
+
+pub add-none : (f : List ℕ) (w : ℤ) (L : List Line) → length f ≡ 0 → add f w L ≡ L
+unfolding add
+add-none [] w L e = refl
+add-none (t ∷ f) w L e = let z : ⊥ = omega arith in absurd z
 
 pub record Placed (t : Table) (f : List ℕ) (at : ℕ) (b : Bool) : Type 0 where
   pub place : at ≡ placeOf f (linesOf t)

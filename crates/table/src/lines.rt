@@ -1,17 +1,24 @@
 // Lines in a table: where a polynomial stands, and folding a weighted polynomial in.
 use crate::order::ahead;
+use crate::order::insert_entry;
+use crate::order::remove_entry;
 use crate::order::row_at;
 use polynomial::Ordering;
+use polynomial::Polynomial;
+use polynomial::area::write;
 use polynomial::order::compare;
 use polynomial::order::least;
 use term::key;
 ghost use mathlib.Core.Path.{_≡_};
-ghost use Prim.Native.Nat.{_+_, _*_, _≤_, _<_};
+ghost use mathlib.Core.List.{[], _++_, _∷_};
+ghost use Prim.Native.Nat.{suc, _+_, _*_, _≤_, _<_, _^_};
 ghost use lib.Dec.{T};
+ghost use lib.IntN.{_+ℤ_};
+ghost use lib.Signed.{mag};
 ghost use lib.ListN.{length, getD, take, drop};
 ghost use Rattle.polynomial.specs.Polynomial.{orderOf};
-ghost use Rattle.configuration.specs.Configuration.{some, weight, placeOf, isHeld};
-ghost use Rattle.table.specs.Rows.{tableAt, tableBefore, rowOf, keyIn, linesOf, capacityOf, firstKey, Fits};
+ghost use Rattle.configuration.specs.Configuration.{line, some, weight, add, Ordered, placeOf, isHeld};
+ghost use Rattle.table.specs.Rows.{tableAt, tableBefore, tableAfter, rowOf, keyIn, linesOf, capacityOf, firstKey, Fits};
 
 // Where a polynomial stands, or would stand, among the lines, and whether it is held.
 pub struct Place {
@@ -137,4 +144,151 @@ pub fn weight_of(
     let first = key(f[0]);
     let known = look_up(lines, order, terms, weights, counts, f, first);
     known.weight
+}
+
+// Puts a line, whose first term has the given key, in at its place among the lines, in the first row that is free.
+fn insert_line(
+    lines: usize,
+    order: &mut [u64],
+    terms: &mut [u32],
+    weights: &mut [i64],
+    counts: &mut [u32],
+    at: usize,
+    f: &[u32],
+    first: u64,
+    weight: i64,
+) -> usize
+    requires { let t = tableAt lines order terms weights counts in let c = capacityOf t in let L = linesOf t in let p = now f in
+        ⌜ Fits c t × (at ≤ lines) × (lines < c) × T (some p) × (length p ≤ 64) × (first ≡ firstKey p) × Ordered (take at L ++ line p weight ∷ drop at L) ⌝ }
+    ensures lines { λ r. let L = linesOf (tableBefore lines order terms weights counts) in
+        ⌜ linesOf (tableAfter r order terms weights counts) ≡ take at L ++ line (now (f .entry)) weight ∷ drop at L ⌝ }
+    ensures fits { λ r. ⌜ Fits (capacityOf (tableBefore lines order terms weights counts)) (tableAfter r order terms weights counts) ⌝ }
+{
+    let here = row_at(order, lines);
+    insert_entry(order, at, lines, 128 * first + (here as u64));
+    write(terms, 64 * here, f);
+    weights[here] = weight;
+    counts[here] = f.len() as u32;
+    lines + 1
+}
+
+// Takes the line at a place out: its row is free, and what it holds stays there.
+fn remove_line(
+    lines: usize,
+    order: &mut [u64],
+    terms: &[u32],
+    weights: &[i64],
+    counts: &[u32],
+    at: usize,
+) -> usize
+    requires { let t = tableAt lines order terms weights counts in ⌜ Fits (capacityOf t) t × (at < lines) ⌝ }
+    ensures lines { λ r. let L = linesOf (tableBefore lines order terms weights counts) in
+        ⌜ linesOf (tableAt r (order .exit) (terms .entry) (weights .entry) (counts .entry)) ≡ take at L ++ drop (suc at) L ⌝ }
+    ensures fits { λ r. ⌜ Fits (capacityOf (tableBefore lines order terms weights counts)) (tableAt r (order .exit) (terms .entry) (weights .entry) (counts .entry)) ⌝ }
+{
+    let here = row_at(order, at);
+    remove_entry(order, at, lines, here as u64);
+    lines - 1
+}
+
+// Folds a weighted polynomial, not 0, in at its place, where the key of its first term and its weight so far are known: 0 if it
+// is not held. It is for this crate.
+pub fn fold_at(
+    lines: usize,
+    order: &mut [u64],
+    terms: &mut [u32],
+    weights: &mut [i64],
+    counts: &mut [u32],
+    at: usize,
+    f: &[u32],
+    old: i64,
+    first: u64,
+    amount: i64,
+) -> usize
+    requires { let t = tableAt lines order terms weights counts in let c = capacityOf t in let L = linesOf t in let p = now f in
+        ⌜ Fits c t × T (some p) × (length p ≤ 64) × (first ≡ firstKey p) × (at ≡ placeOf p L) × (old ≡ weight L p)
+        × (mag (weight L p +ℤ amount) < 2 ^ 63) × (length (add p amount L) ≤ c) ⌝ }
+    ensures lines { λ r. let L = linesOf (tableBefore lines order terms weights counts) in
+        ⌜ linesOf (tableAfter r order terms weights counts) ≡ add (now (f .entry)) amount L ⌝ }
+    ensures fits { λ r. ⌜ Fits (capacityOf (tableBefore lines order terms weights counts)) (tableAfter r order terms weights counts) ⌝ }
+{
+    if old != 0 {
+        let sum = old + amount;
+        if sum == 0 {
+            return remove_line(lines, order, terms, weights, counts, at);
+        }
+        let here = row_at(order, at);
+        weights[here] = sum;
+        return lines;
+    }
+    if amount == 0 {
+        return lines;
+    }
+    insert_line(lines, order, terms, weights, counts, at, f, first, amount)
+}
+
+// Folds a weighted polynomial in: an equal polynomial's weight is added up, a weight or polynomial 0 vanishes. It is for the
+// crate `calculus`.
+pub fn fold_in(
+    lines: usize,
+    order: &mut [u64],
+    terms: &mut [u32],
+    weights: &mut [i64],
+    counts: &mut [u32],
+    f: &[u32],
+    amount: i64,
+) -> usize
+    requires { let t = tableAt lines order terms weights counts in let c = capacityOf t in let L = linesOf t in let p = now f in
+        ⌜ Fits c t × (length p ≤ 64) × (mag (weight L p +ℤ amount) < 2 ^ 63) × (length (add p amount L) ≤ c) ⌝ }
+    ensures lines { λ r. let L = linesOf (tableBefore lines order terms weights counts) in
+        ⌜ linesOf (tableAfter r order terms weights counts) ≡ add (now (f .entry)) amount L ⌝ }
+    ensures fits { λ r. ⌜ Fits (capacityOf (tableBefore lines order terms weights counts)) (tableAfter r order terms weights counts) ⌝ }
+{
+    if f.len() == Polynomial::ZERO.count {
+        return lines;
+    }
+    let first = key(f[0]);
+    let known = look_up(lines, order, terms, weights, counts, f, first);
+    fold_at(
+        lines,
+        order,
+        terms,
+        weights,
+        counts,
+        known.at,
+        f,
+        known.weight,
+        first,
+        amount,
+    )
+}
+
+// Puts a line behind all others. It is for the crates that fill a table line by line, each behind the one before.
+pub fn append(
+    lines: usize,
+    order: &mut [u64],
+    terms: &mut [u32],
+    weights: &mut [i64],
+    counts: &mut [u32],
+    f: &[u32],
+    weight: i64,
+) -> usize
+    requires { let t = tableAt lines order terms weights counts in let c = capacityOf t in let p = now f in
+        ⌜ Fits c t × (lines < c) × (length p ≤ 64) × Ordered (linesOf t ++ line p weight ∷ []) ⌝ }
+    ensures lines { λ r. let L = linesOf (tableBefore lines order terms weights counts) in
+        ⌜ linesOf (tableAfter r order terms weights counts) ≡ L ++ line (now (f .entry)) weight ∷ [] ⌝ }
+    ensures fits { λ r. ⌜ Fits (capacityOf (tableBefore lines order terms weights counts)) (tableAfter r order terms weights counts) ⌝ }
+{
+    let first = key(f[0]);
+    insert_line(
+        lines,
+        order,
+        terms,
+        weights,
+        counts,
+        lines,
+        f,
+        first,
+        weight,
+    )
 }
