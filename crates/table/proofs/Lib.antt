@@ -1,4 +1,8 @@
 pub mod Keys
 pub mod Searches
 pub mod Places
-pub mod Changes
+pub mod Written
+pub mod Foldings
+pub mod Judgements
+pub mod Weighings
+pub mod Prepared

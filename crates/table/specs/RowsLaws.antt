@@ -1,5 +1,5 @@
 -- Laws of a table that fits: line i of it is the line in the row of entry i, and what holds of that row; and a fresh table, which holds no line.
-use mathlib.Core.Path.{_≡_, refl, sym, ap, _∙_}
+use mathlib.Core.Path.{_≡_, refl, sym, ap, subst, _∙_}
 use mathlib.Core.List.{List, [], _∷_, _++_, map}
 use Prim.Native.Nat.{ℕ, zero, suc, _+_, _*_, _≤_, _<_}
 use native.Mathlib.Nat.{le-of-suc-le-suc, not-suc-le-zero}
@@ -9,7 +9,7 @@ use lib.IntN.{ℤ, pos}
 use lib.ListN.{length, getD, take, drop, length-map}
 use lib.Seq.{getD-take, length-take-le}
 use Rattle.configuration.specs.Configuration.{Line, line, some, Ordered}
-use Rattle.table.specs.Rows.{Table, rowOf, keyIn, termsIn, lineIn, linesAt, linesOf, Each, Misses, Once, firstKey, Entered, Fits, inTurn}
+use Rattle.table.specs.Rows.{Table, rowOf, keyIn, termsIn, lineIn, linesAt, linesOf, capacityOf, Each, Misses, Once, firstKey, Entered, Fits, inTurn}
 
 -- ---- what is made of each element of a list
 module _ {A B : Type 0} (f : A → B) where
@@ -137,3 +137,10 @@ fresh-fits c ts ws cs b lt lw lc = record {
   entered = tt;
   ordered = tt;
 }
+
+-- ---- the capacity, as a function is asked for it that has the areas alone
+pub of-capacity : {c : ℕ} {t : Table} → Fits c t → Fits (capacityOf t) t
+of-capacity {c} {t} q = subst (λ (n : ℕ). Fits n t) (sym (q .counts-length)) q
+
+pub to-capacity : {c : ℕ} {t u : Table} → Fits c t → Fits (capacityOf t) u → Fits c u
+to-capacity {c} {t} {u} q x = subst (λ (n : ℕ). Fits n u) (q .counts-length) x

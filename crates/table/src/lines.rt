@@ -183,8 +183,8 @@ fn remove_line(
 ) -> usize
     requires { let t = tableAt lines order terms weights counts in ⌜ Fits (capacityOf t) t × (at < lines) ⌝ }
     ensures lines { λ r. let L = linesOf (tableBefore lines order terms weights counts) in
-        ⌜ linesOf (tableAt r (order .exit) (terms .entry) (weights .entry) (counts .entry)) ≡ take at L ++ drop (suc at) L ⌝ }
-    ensures fits { λ r. ⌜ Fits (capacityOf (tableBefore lines order terms weights counts)) (tableAt r (order .exit) (terms .entry) (weights .entry) (counts .entry)) ⌝ }
+        ⌜ linesOf (tableAfter r order terms weights counts) ≡ take at L ++ drop (suc at) L ⌝ }
+    ensures fits { λ r. ⌜ Fits (capacityOf (tableBefore lines order terms weights counts)) (tableAfter r order terms weights counts) ⌝ }
 {
     let here = row_at(order, at);
     remove_entry(order, at, lines, here as u64);

@@ -13,7 +13,7 @@ use Rattle.configuration.specs.Configuration.{Line, line, some, Ordered}
 use Rattle.table.specs.Rows.{Table, linesOf, firstKey}
 use Rattle.table.specs.RowsLaws.{length-lines}
 use Rattle.table.proofs.Searches.{some-length, first-key}
-use Rattle.table.proofs.Changes.{last-some}
+use Rattle.table.proofs.Written.{last-some}
 use Rattle.table.proofs.lines.append.Statement.{statement}
 use Rattle.table.proofs.lines.append.Tie as tie
 

@@ -18,7 +18,7 @@ use Rattle.configuration.proofs.Areas.{is-zero, not-zero}
 use Rattle.table.specs.Rows.{Table, linesOf}
 use Rattle.table.specs.RowsLaws.{held-below}
 use Rattle.table.proofs.Places.{Placed, placed-by, in-reach, in-table, terms-here, add-nought, add-line, add-room, add-gone, add-changed}
-use Rattle.table.proofs.Changes.{weighed}
+use Rattle.table.proofs.Written.{weighed}
 use Rattle.table.proofs.lines.fold_at.Statement.{statement}
 use Rattle.table.proofs.lines.fold_at.Tie as tie
 

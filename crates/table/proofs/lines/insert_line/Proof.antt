@@ -9,7 +9,7 @@ use borrow.Author.Needs.{needs}
 use Rattle.table.specs.Rows.{firstKey}
 use Rattle.table.specs.RowsLaws.{row-below}
 use Rattle.table.proofs.Searches.{first-small}
-use Rattle.table.proofs.Changes.{inserted}
+use Rattle.table.proofs.Written.{inserted}
 use Rattle.table.proofs.lines.insert_line.Statement.{statement}
 use Rattle.table.proofs.lines.insert_line.Tie as tie
 
