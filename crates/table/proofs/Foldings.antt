@@ -9,13 +9,13 @@ use native.Mathlib.Omega.{arith}
 use lib.Dec.{T}
 use lib.IntN.{ℤ, pos, _+ℤ_}
 use lib.Signed.{mag}
-use lib.ListN.{length, getD, set, take, drop, replicate, length-set, drop-of-length-le}
-use lib.Seq.{drop-cons, take-suc-set, append-snoc, set-getD, getD-set-other}
+use lib.ListN.{length, getD, set, take, drop, replicate, length-take, length-set, drop-of-length-le}
+use lib.Seq.{length-take-le, drop-cons, take-suc-set, append-snoc, set-getD, getD-set-other}
 use Rattle.configuration.specs.Weight.{isZero, allInRange}
 use Rattle.configuration.specs.Configuration.{Line, line, some, weight, add, addAll, Behind, Ordered, Every, placeOf}
 use Rattle.configuration.specs.Replacement.{weightsBefore, weightsAfter, placesIn, chosen, Placed, shifted, Room}
 use Rattle.configuration.specs.PlaceLaws.{weight-other, not-same}
-use Rattle.configuration.specs.ReplacementLaws.{two-passes, room-first, room-last, length-after, length-places, shifted-take}
+use Rattle.configuration.specs.ReplacementLaws.{two-passes, room-first, room-last, length-shifted, shifted-take}
 use Rattle.configuration.specs.PlacedLaws.{place-behind, placed-first, placed-rest}
 use Rattle.table.proofs.Searches.{none}
 
@@ -152,6 +152,14 @@ module _ {b : Bool} {ss : List ℤ} {N L : List Line} {i : ℕ} {M : List Line} 
       moved = subst (λ (K : List Line). Every (Moves L K) (drop (i + 1) N)) (sym z)
           (moves-more L M f w (drop (i + 1) N) r (rest-ordered .0) (rest-ordered .1 .1 .0) (rest-ordered .1 .1 .1) (rest-moved .1));
     }
+
+-- the places of n lines, as they are shifted
+pub shifted-are : (n : ℕ) (A : List ℤ) (ps qs : List ℕ) → length A ≡ n → take (length A) qs ≡ shifted 0 A ps → take n qs ≡ shifted 0 A (take n ps)
+shifted-are n A ps qs e z = ap (λ (k : ℕ). take k qs) (sym e) ∙ z ∙ shifted-take 0 A ps ∙ ap (λ (k : ℕ). shifted 0 A (take k ps)) e
+
+pub shifted-there : (n : ℕ) (A : List ℤ) (ps qs : List ℕ) → length A ≡ n → n ≤ length ps → take n qs ≡ shifted 0 A (take n ps) → n ≤ length qs
+shifted-there n A ps qs e h z =
+    omega (arith, ap length z, length-take n qs, length-shifted 0 A (take n ps) (omega (arith, length-take-le n ps h)))
 
 -- ---- the lines N folded into L in two passes, by the weights A afterwards
 pub record Passes (N L : List Line) (A : List ℤ) : Type 0 where

@@ -1,16 +1,18 @@
 -- Line i of the changes that are folded in.
-use mathlib.Core.Path.{_≡_, ap, _∙_}
-use mathlib.Core.List.{List, [], _∷_}
+use mathlib.Core.Path.{_≡_, refl, sym, ap, subst, _∙_}
+use mathlib.Core.List.{List, [], _∷_, map}
 use Prim.Native.Nat.{ℕ, zero, suc, _+_, _*_, _≤_, _<_}
 use native.Mathlib.Nat.{le-of-suc-le-suc, not-suc-le-zero}
 use native.Mathlib.Omega.{arith}
 use lib.IntN.{pos}
 use lib.ListN.{length, getD, take, drop, length-take, length-map}
 use lib.Seq.{getD-take, length-take-le}
-use Rattle.configuration.specs.Configuration.{Line}
-use Rattle.table.specs.Rows.{firstKey}
-use Rattle.table.specs.RowsLaws.{map-at}
-use Rattle.table.specs.Replacing.{changedTerms, changedLine, changedLines, Readable, Prepared}
+use Rattle.configuration.specs.Configuration.{Line, Ordered}
+use Rattle.configuration.specs.ReplacementLaws.{length-after, length-before, length-places}
+use Rattle.table.specs.Rows.{Table, rowOf, lineIn, linesAt, linesOf, Each, Once, firstKey, Entered, Fits}
+use Rattle.table.specs.RowsLaws.{map-at, lines-long, length-lines}
+use Rattle.table.specs.OnceLaws.{once-take}
+use Rattle.table.specs.Replacing.{changeOf, changedTerms, changedLine, changedLines, Readable, Prepared, Weighed}
 use Rattle.table.specs.declared.replace.Change.{Change}
 use Rattle.table.specs.declared.replace.Changes.{Changes}
 
@@ -45,3 +47,39 @@ module _ {ts : List ℕ} {w : Changes} (p : Prepared ts w) where
 
     pub change-line : (d : Line) → getD (changedLines ts w) i d ≡ changedLine ts c
     change-line d = map-at (changedLine ts) i (take (w .many) (w .rows)) nothing d (omega (arith, many-rows)) ∙ ap (changedLine ts) row-is
+
+-- ---- the changes of a table of four, as `weigh` tells them
+module _ {t : Table} (q : Fits 4 t) where
+  changed-at : (is : List ℕ) → map (changedLine (t .terms)) (map (changeOf t) is) ≡ linesAt t is
+  changed-at [] = refl
+  changed-at (e ∷ is) = ap (λ (r : List Line). lineIn t (rowOf e) ∷ r) (changed-at is)
+
+  readable-of : (is : List ℕ) → Once 4 is → Each (Entered t) is → Readable (t .terms) (map (changeOf t) is)
+  readable-of [] o n = tt
+  readable-of (e ∷ is) o n = (omega (arith, o .0, n .0 .1, q .terms-length), (n .0 .1, (n .0 .0, readable-of is (o .1 .1) (n .1))))
+
+  module _ {L : List Line} {w : Changes} (em : w .many ≡ t .lines) (er : take (t .lines) (w .rows) ≡ map (changeOf t) (take (t .lines) (t .order)))
+      (ew : Weighed (t .lines) (linesOf t) L w) where
+    rows-are : take (w .many) (w .rows) ≡ map (changeOf t) (take (t .lines) (t .order))
+    rows-are = ap (λ (n : ℕ). take n (w .rows)) em ∙ er
+
+    -- as many as there are lines
+    enough : {A : Type 0} (l m : List A) → take (t .lines) l ≡ m → length m ≡ t .lines → w .many ≤ length l
+    enough l m e d = omega (arith, ap length e, length-take (t .lines) l)
+
+    pub lines-are : changedLines (t .terms) w ≡ linesOf t
+    lines-are = ap (map (changedLine (t .terms))) rows-are ∙ changed-at (take (t .lines) (t .order))
+
+    pub prepared-by : Prepared (t .terms) w
+    prepared-by = record {
+      at-most = omega (arith, q .room);
+      rows-there = enough (w .rows) _ er (length-map (take (t .lines) (t .order)) (changeOf t) ∙ lines-long q);
+      places-there = enough (w .places) _ (ew .places-are) (length-places (linesOf t) L ∙ length-lines q);
+      before-there = enough (w .before) _ (ew .before-are) (length-before (linesOf t) L ∙ length-lines q);
+      after-there = enough (w .after) _ (ew .after-are) (length-after (linesOf t) L ∙ length-lines q);
+      readable = rw rows-are (readable-of (take (t .lines) (t .order)) (once-take 4 (t .lines) (t .order) (q .once)) (q .entered));
+      in-order = subst Ordered (sym lines-are) (q .ordered);
+    }
+
+    pub weighed-by : Weighed (w .many) (changedLines (t .terms) w) L w
+    weighed-by = subst (λ (N : List Line). Weighed (w .many) N L w) (sym lines-are) (subst (λ (n : ℕ). Weighed n (linesOf t) L w) (sym em) ew)

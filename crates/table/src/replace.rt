@@ -1,6 +1,7 @@
 // The replacement of weighted polynomials, all or nothing: the changes have been folded among themselves, in a table of
 // four lines; the outcome is judged, and only then lines are written. Lines that vanish go first, so that the table never
 // has more lines than the larger of before and after.
+use crate::Replaced;
 use crate::Verdict;
 use crate::lines::fold_at;
 use crate::lines::look_up;
@@ -8,16 +9,20 @@ use crate::lines::row;
 use crate::order::key_at;
 use crate::order::row_at;
 use configuration::form::weights_fit;
+use polynomial::Polynomial;
+use term::key;
 ghost use mathlib.Core.Path.{_≡_};
-ghost use mathlib.Core.List.{map};
-ghost use Prim.Native.Nat.{_+_, _≤_};
+ghost use mathlib.Core.Bool.{not};
+ghost use mathlib.Core.List.{[], _∷_, map};
+ghost use Prim.Native.Nat.{_+_, _≤_, _<_, _^_};
 ghost use lib.Dec.{T, leb};
+ghost use lib.Signed.{mag};
 ghost use lib.ListN.{length, take};
-ghost use Rattle.configuration.specs.Weight.{allInRange};
-ghost use Rattle.configuration.specs.Configuration.{addAll, weightsFit};
+ghost use Rattle.configuration.specs.Weight.{isZero, allInRange};
+ghost use Rattle.configuration.specs.Configuration.{line, addAll, weightsFit};
 ghost use Rattle.configuration.specs.Replacement.{Small, Room, Placed, shifted, countHeld, chosen};
 ghost use Rattle.table.specs.Rows.{tableAt, tableBefore, tableAfter, linesOf, Fits};
-ghost use Rattle.table.specs.Replacing.{changeOf, changedLines, Prepared, Weighed, verdictOf};
+ghost use Rattle.table.specs.Replacing.{changeOf, changedLines, Prepared, Weighed, verdictOf, replacedOf, replaced};
 
 // A line that is to be folded in: the row of its terms, how many they are, the key of the first, and the amount.
 struct Change {
@@ -200,4 +205,150 @@ fn fold_chosen(
         i += 1;
     }
     held
+}
+
+// Folds changes into a table, the lines that vanish first.
+fn fold_table(
+    lines: usize,
+    order: &mut [u64],
+    terms: &mut [u32],
+    weights: &mut [i64],
+    counts: &mut [u32],
+    new_terms: &[u32],
+    changes: Changes,
+) -> usize
+    requires { let t = tableAt lines order terms weights counts in let L = linesOf t in let n = changes .many in
+        let N = changedLines (now «new_terms») changes in
+        ⌜ Fits 128 t × Prepared (now «new_terms») changes × Weighed n N L changes × T (allInRange (take n (changes .after))) × (length (addAll N L) ≤ 128) ⌝ }
+    ensures lines { λ r. let L = linesOf (tableBefore lines order terms weights counts) in
+        ⌜ linesOf (tableAfter r order terms weights counts) ≡ addAll (changedLines (now («new_terms» .entry)) changes) L ⌝ }
+    ensures fits { λ r. ⌜ Fits 128 (tableAfter r order terms weights counts) ⌝ }
+{
+    let fewer = fold_chosen(
+        lines,
+        order,
+        terms,
+        weights,
+        counts,
+        new_terms,
+        changes,
+        true,
+    );
+    let many = changes.many;
+    let rows = changes.rows;
+    let first = changes.places;
+    let before = changes.before;
+    let after = changes.after;
+    let places = shift(first, &after[..many]);
+    let rest = Changes {
+        many,
+        rows,
+        places,
+        before,
+        after,
+    };
+    fold_chosen(fewer, order, terms, weights, counts, new_terms, rest, false)
+}
+
+// Replaces weighted polynomials in a table: the lines of a table of four are added, and the limits judged on the outcome alone. A
+// refusal changes nothing. It is for the crate `calculus`, which tests the polynomials first.
+pub fn replace(
+    lines: usize,
+    order: &mut [u64],
+    terms: &mut [u32],
+    weights: &mut [i64],
+    counts: &mut [u32],
+    new_lines: usize,
+    new_order: &[u64],
+    new_terms: &[u32],
+    new_weights: &[i64],
+    new_counts: &[u32],
+) -> Replaced
+    requires { let t = tableAt lines order terms weights counts in let four = tableAt «new_lines» «new_order» «new_terms» «new_weights» «new_counts» in
+        ⌜ Fits 128 t × T (weightsFit (linesOf t)) × Fits 4 four × Small 45 (linesOf four) ⌝ }
+    ensures lines { λ r. let L = linesOf (tableBefore lines order terms weights counts) in
+        let N = linesOf (tableBefore «new_lines» «new_order» «new_terms» «new_weights» «new_counts») in
+        ⌜ replacedOf (r .verdict) (linesOf (tableAfter (r .lines) order terms weights counts)) ≡ replaced N L ⌝ }
+    ensures fits { λ r. ⌜ Fits 128 (tableAfter (r .lines) order terms weights counts) ⌝ }
+{
+    if new_lines == 0 {
+        return Replaced {
+            lines,
+            verdict: Verdict::Done,
+        };
+    }
+    let changes = weigh(
+        lines,
+        order,
+        terms,
+        weights,
+        counts,
+        new_lines,
+        new_order,
+        new_terms,
+        new_weights,
+        new_counts,
+    );
+    let before = changes.before;
+    let after = changes.after;
+    let verdict = judge(lines, &before[..new_lines], &after[..new_lines]);
+    let Verdict::Done = verdict else {
+        return Replaced { lines, verdict };
+    };
+    let last = fold_table(lines, order, terms, weights, counts, new_terms, changes);
+    Replaced {
+        lines: last,
+        verdict,
+    }
+}
+
+// Adds one weighted polynomial to a table, within the limits. A refusal changes nothing. It is for the crate `problem`, which has
+// tested the polynomial and the weight.
+pub fn add(
+    lines: usize,
+    order: &mut [u64],
+    terms: &mut [u32],
+    weights: &mut [i64],
+    counts: &mut [u32],
+    f: &[u32],
+    amount: i64,
+) -> Replaced
+    requires { let t = tableAt lines order terms weights counts in
+        ⌜ Fits 128 t × T (weightsFit (linesOf t)) × (length (now f) ≤ 64) × (mag amount < 2 ^ 42) × T (not (isZero amount)) ⌝ }
+    ensures lines { λ r. let L = linesOf (tableBefore lines order terms weights counts) in
+        ⌜ replacedOf (r .verdict) (linesOf (tableAfter (r .lines) order terms weights counts)) ≡ replaced (line (now (f .entry)) amount ∷ []) L ⌝ }
+    ensures fits { λ r. ⌜ Fits 128 (tableAfter (r .lines) order terms weights counts) ⌝ }
+{
+    if f.len() == Polynomial::ZERO.count {
+        return Replaced {
+            lines,
+            verdict: Verdict::Done,
+        };
+    }
+    let first = key(f[0]);
+    let known = look_up(lines, order, terms, weights, counts, f, first);
+    let old = known.weight;
+    let before = [old];
+    let sum = old + amount;
+    let after = [sum];
+    let verdict = judge(lines, &before, &after);
+    let Verdict::Done = verdict else {
+        return Replaced { lines, verdict };
+    };
+    let last = fold_at(
+        lines,
+        order,
+        terms,
+        weights,
+        counts,
+        known.at,
+        f,
+        old,
+        first,
+        amount,
+    );
+    Replaced {
+        lines: last,
+        verdict,
+    }
 }
