@@ -51,6 +51,10 @@ linesAt t is = map (λ e. lineIn t (rowOf e)) is
 abbrev pub linesOf : Table → List Line
 linesOf t = linesAt t (take (t .lines) (t .order))
 
+-- the weights in the rows of some entries
+abbrev pub weightsAt : List ℤ → List ℕ → List ℤ
+weightsAt ws is = map (λ e. getD ws (rowOf e) (pos 0)) is
+
 -- how many lines a table has room for
 abbrev pub capacityOf : Table → ℕ
 capacityOf t = length (t .counts)

@@ -1,15 +1,17 @@
 -- Laws of a table that fits: line i of it is the line in the row of entry i, and what holds of that row; and a fresh table, which holds no line.
 use mathlib.Core.Path.{_≡_, refl, sym, ap, subst, _∙_}
+use mathlib.Core.Bool.{Bool, true, false, not, cond, _&&_}
 use mathlib.Core.List.{List, [], _∷_, _++_, map}
 use Prim.Native.Nat.{ℕ, zero, suc, _+_, _*_, _≤_, _<_}
-use native.Mathlib.Nat.{le-of-suc-le-suc, not-suc-le-zero}
+use native.Mathlib.Nat.{le-of-suc-le-suc, not-suc-le-zero, add-zero}
 use native.Mathlib.Omega.{arith}
 use lib.Dec.{T}
 use lib.IntN.{ℤ, pos}
 use lib.ListN.{length, getD, take, drop, length-map}
-use lib.Seq.{getD-take, length-take-le}
-use Rattle.configuration.specs.Configuration.{Line, line, some, Ordered}
-use Rattle.table.specs.Rows.{Table, rowOf, keyIn, termsIn, lineIn, linesAt, linesOf, capacityOf, Each, Misses, Once, firstKey, Entered, Fits, inTurn}
+use lib.Seq.{getD-take, getD-drop, drop-cons, length-take-le}
+use Rattle.configuration.specs.Weight.{inRange, allInRange, isNegative, noneNegative}
+use Rattle.configuration.specs.Configuration.{Line, line, some, Ordered, weightsFit, anyNegative}
+use Rattle.table.specs.Rows.{Table, rowOf, keyIn, termsIn, lineIn, linesAt, linesOf, weightsAt, capacityOf, Each, Misses, Once, firstKey, Entered, Fits, inTurn}
 
 -- ---- what is made of each element of a list
 module _ {A B : Type 0} (f : A → B) where
@@ -61,7 +63,7 @@ module _ (P : ℕ → Type 0) where
   each-at zero (e ∷ is) a h = a .0
   each-at (suc i) (e ∷ is) a h = each-at i is (a .1) (le-of-suc-le-suc h)
 
-once-each : (c : ℕ) (is : List ℕ) → Once c is → Each (λ e. rowOf e < c) is
+pub once-each : (c : ℕ) (is : List ℕ) → Once c is → Each (λ e. rowOf e < c) is
 once-each c [] o = tt
 once-each c (e ∷ is) o = (o .0, once-each c is (o .1 .1))
 
@@ -105,6 +107,38 @@ module _ {c : ℕ} {t : Table} (q : Fits c t) where
     pub row-fits : 64 * r + getD (t .counts) r 0 ≤ length (t .terms)
     row-fits = omega (arith, held-below, entered-at .1, q .terms-length)
 
+-- ---- the weights of the lines are those of their rows
+pub weights-sign : (t : Table) (is : List ℕ) → noneNegative (weightsAt (t .weights) is) ≡ not (anyNegative (linesAt t is))
+unfolding noneNegative anyNegative
+weights-sign t [] = refl
+weights-sign t (e ∷ is) = go (isNegative (getD (t .weights) (rowOf e) (pos 0))) (weights-sign t is)
+  where
+    go : (b : Bool) → noneNegative (weightsAt (t .weights) is) ≡ not (anyNegative (linesAt t is))
+        → (not b && noneNegative (weightsAt (t .weights) is)) ≡ not (cond b true (anyNegative (linesAt t is)))
+    go true r = refl
+    go false r = r
+
+pub weights-range : (t : Table) (is : List ℕ) → allInRange (weightsAt (t .weights) is) ≡ weightsFit (linesAt t is)
+unfolding allInRange weightsFit
+weights-range t [] = refl
+weights-range t (e ∷ is) = ap (λ (b : Bool). inRange (getD (t .weights) (rowOf e) (pos 0)) && b) (weights-range t is)
+
+-- ---- the first line, and its first term
+first-term : (n : ℕ) (l : List ℕ) → T (some (take n l)) → take n l ≡ getD l 0 0 ∷ drop 1 (take n l)
+first-term zero l h = absurd h
+first-term (suc n) [] h = absurd h
+first-term (suc n) (x ∷ l) h = refl
+
+pub first-line : {c : ℕ} {t : Table} → Fits c t → 0 < t .lines
+    → (let r = rowOf (getD (t .order) 0 0) in linesOf t ≡ line (getD (t .terms) (64 * r) 0 ∷ drop 1 (termsIn t r)) (getD (t .weights) r (pos 0)) ∷ drop 1 (linesOf t))
+first-line {c} {t} q h =
+    let r : ℕ = rowOf (getD (t .order) 0 0) in
+    let d : Line = line [] (pos 0) in
+    let e : termsIn t r ≡ getD (t .terms) (64 * r) 0 ∷ drop 1 (termsIn t r) = first-term (getD (t .counts) r 0) (drop (64 * r) (t .terms)) (line-some q 0 h)
+    ∙ ap (λ (x : ℕ). x ∷ drop 1 (termsIn t r)) (getD-drop (64 * r) (t .terms) 0 0 ∙ ap (λ (k : ℕ). getD (t .terms) k 0) (add-zero (64 * r))) in
+    drop-cons (linesOf t) 0 d (omega (arith, length-lines q))
+    ∙ ap (λ (x : Line). x ∷ drop 1 (linesOf t)) (line-at q 0 h d ∙ ap (λ (f : List ℕ). line f (getD (t .weights) r (pos 0))) e)
+
 -- ---- a fresh table: each row has an entry, and none a line
 turn-misses : (r n i : ℕ) → r < i → i + n ≤ 128 → Misses r (inTurn n i)
 unfolding inTurn
@@ -144,3 +178,7 @@ of-capacity {c} {t} q = subst (λ (n : ℕ). Fits n t) (sym (q .counts-length)) 
 
 pub to-capacity : {c : ℕ} {t u : Table} → Fits c t → Fits (capacityOf t) u → Fits c u
 to-capacity {c} {t} {u} q x = subst (λ (n : ℕ). Fits n u) (q .counts-length) x
+
+-- each row has a weight, as `none_negative` asks for it
+pub once-weights : {c : ℕ} {t : Table} → Fits c t → Once (length (t .weights)) (t .order)
+once-weights {c} {t} q = subst (λ (n : ℕ). Once n (t .order)) (sym (q .weights-length)) (q .once)

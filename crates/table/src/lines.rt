@@ -10,15 +10,17 @@ use polynomial::order::compare;
 use polynomial::order::least;
 use term::key;
 ghost use mathlib.Core.Path.{_≡_};
-ghost use mathlib.Core.List.{[], _++_, _∷_};
-ghost use Prim.Native.Nat.{suc, _+_, _*_, _≤_, _<_, _^_};
+ghost use mathlib.Core.Bool.{not};
+ghost use mathlib.Core.List.{List, [], _++_, _∷_};
+ghost use Prim.Native.Nat.{ℕ, suc, _+_, _*_, _≤_, _<_, _^_};
 ghost use lib.Dec.{T};
 ghost use lib.IntN.{_+ℤ_};
 ghost use lib.Signed.{mag};
 ghost use lib.ListN.{length, getD, take, drop};
 ghost use Rattle.polynomial.specs.Polynomial.{orderOf};
-ghost use Rattle.configuration.specs.Configuration.{line, some, weight, add, Ordered, placeOf, isHeld};
-ghost use Rattle.table.specs.Rows.{tableAt, tableBefore, tableAfter, rowOf, keyIn, linesOf, capacityOf, firstKey, Fits};
+ghost use Rattle.configuration.specs.Weight.{isNegative};
+ghost use Rattle.configuration.specs.Configuration.{line, some, weight, add, Ordered, placeOf, isHeld, anyNegative};
+ghost use Rattle.table.specs.Rows.{tableAt, tableBefore, tableAfter, rowOf, keyIn, linesOf, capacityOf, Once, firstKey, Fits};
 
 // Where a polynomial stands, or would stand, among the lines, and whether it is held.
 pub struct Place {
@@ -291,4 +293,28 @@ pub fn append(
         first,
         weight,
     )
+}
+
+// Whether a weight is negative.
+fn is_negative(weight: i64) -> bool
+    ensures { λ r. ⌜ r ≡ isNegative weight ⌝ }
+{
+    weight < 0
+}
+
+// Whether no line is negative: the bits of the weights are joined, without a branch, and the sign is that of any negative one. It
+// is for the crates `calculus` and `derivation`.
+pub fn none_negative(lines: usize, order: &[u64], weights: &[i64]) -> bool
+    requires { ⌜ (lines ≤ length (now order)) × Once (length (now weights)) (now order) ⌝ }
+    ensures { λ r. ⌜ ((terms counts : List ℕ) → r ≡ not (anyNegative (linesOf
+        (record { lines = lines; order = now (order .entry); terms = terms; weights = now (weights .entry); counts = counts })))) ⌝ }
+{
+    let mut bits: i64 = 0;
+    let mut i: usize = 0;
+    while i < lines {
+        let here = row_at(order, i);
+        bits = bits | weights[here];
+        i += 1;
+    }
+    !is_negative(bits)
 }
