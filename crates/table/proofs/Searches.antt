@@ -1,5 +1,5 @@
 -- The search for a polynomial among the lines of a table: by halving, over plain lines; and where it begins, behind the lines whose keys are above the polynomial's.
-use mathlib.Core.Path.{_≡_, refl, sym, ap, _∙_, subst}
+use mathlib.Core.Path.{_≡_, refl, sym, _∙_, subst}
 use mathlib.Core.Logic.{_⊎_, inl, inr}
 use mathlib.Core.Bool.{true, false}
 use mathlib.Core.List.{List, [], _∷_}

@@ -1,5 +1,5 @@
 -- The lines of a table of four looked up in another, one by one.
-use mathlib.Core.Path.{_≡_, refl, sym, ap, _∙_}
+use mathlib.Core.Path.{_≡_, refl, sym, _∙_}
 use mathlib.Core.List.{List, [], _∷_, _++_, map, append-nil}
 use Prim.Native.Nat.{ℕ, zero, suc, _+_, _≤_, _<_, _^_}
 use native.Mathlib.Nat.{le-of-suc-le-suc, not-suc-le-zero}
@@ -20,7 +20,6 @@ use Rattle.table.specs.Rows.{Table, rowOf, keyIn, termsIn, linesAt, line
 use Rattle.table.specs.RowsLaws.{lines-long}
 use Rattle.table.specs.Replacing.{changeOf, Weighed}
 use Rattle.table.specs.declared.replace.Change.{Change}
-use Rattle.table.specs.declared.replace.Changes.{Changes}
 
 -- ---- what is made of entries, one by one: W of them all, G of one
 module _ {A : Type 0} (W : List ℕ → List A) (G : ℕ → A) (nil : W [] ≡ []) (more : (e : ℕ) (is : List ℕ) → W (e ∷ is) ≡ G e ∷ W is) (es : List ℕ)

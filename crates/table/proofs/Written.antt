@@ -8,10 +8,10 @@ use native.Mathlib.Omega.{arith}
 use lib.Dec.{T}
 use lib.IntN.{ℤ, pos}
 use lib.ListN.{length, getD, set, take, drop, length-append, length-drop, length-set}
-use lib.Seq.{slice, length-slice, length-take-le, take-at, drop-at, take-take, drop-drop, drop-cons, split-at, getD-take, getD-set-same, getD-set-other}
+use lib.Seq.{slice, length-slice, length-take-le, take-at, drop-at, take-take, drop-drop, split-at, getD-take, getD-set-same, getD-set-other}
 use Rattle.configuration.specs.Configuration.{Line, line, some, Behind, Ordered}
-use Rattle.table.specs.Rows.{Table, rowOf, keyIn, termsIn, lineIn, linesAt, linesOf, Each, Misses, Once, firstKey, Entered, Fits}
-use Rattle.table.specs.RowsLaws.{map-append, map-take, map-drop, each-append, each-front, each-take, each-drop, each-rest, length-lines, lines-long, row-below, held-below, entered-at}
+use Rattle.table.specs.Rows.{Table, rowOf, keyIn, termsIn, lineIn, linesAt, linesOf, Each, Misses, firstKey, Entered, Fits}
+use Rattle.table.specs.RowsLaws.{map-append, map-take, map-drop, each-append, each-front, each-take, each-drop, each-rest, lines-long, row-below, held-below}
 use Rattle.table.specs.OnceLaws.{entered, left, once-at, once-take, entered-once, left-once, entered-length, left-length}
 
 -- ---- terms written at the front of row r, over at most 64 places: the other rows stay

@@ -1,5 +1,5 @@
 -- An order with each row once, when an entry is put in, goes, or is looked at among the others.
-use mathlib.Core.Path.{_≡_, refl, sym, ap, _∙_}
+use mathlib.Core.Path.{_≡_, refl, sym}
 use mathlib.Core.List.{List, [], _∷_, _++_, append-assoc}
 use Prim.Native.Nat.{ℕ, zero, suc, _+_, _-_, _≤_, _<_}
 use native.Mathlib.Nat.{le-of-suc-le-suc, not-suc-le-zero}
@@ -7,7 +7,7 @@ use native.Mathlib.Numerals.{add-one}
 use native.Mathlib.Omega.{arith}
 use lib.ListN.{length, getD, take, drop, length-append, length-take, length-drop, take-append-drop}
 use lib.Seq.{slice, take-take, split-at}
-use Rattle.table.specs.Rows.{rowOf, Each, Misses, Once}
+use Rattle.table.specs.Rows.{rowOf, Misses, Once}
 use Rattle.table.specs.RowsLaws.{each-append, each-front, each-rest}
 
 -- entries in which one is put in at a place, before the n-th, which goes

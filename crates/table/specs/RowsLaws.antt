@@ -11,7 +11,7 @@ use lib.ListN.{length, getD, take, drop, length-map}
 use lib.Seq.{getD-take, getD-drop, drop-cons, length-take-le}
 use Rattle.configuration.specs.Weight.{inRange, allInRange, isNegative, noneNegative}
 use Rattle.configuration.specs.Configuration.{Line, line, some, Ordered, weightsFit, anyNegative}
-use Rattle.table.specs.Rows.{Table, rowOf, keyIn, termsIn, lineIn, linesAt, linesOf, weightsAt, capacityOf, Each, Misses, Once, firstKey, Entered, Fits, inTurn}
+use Rattle.table.specs.Rows.{Table, rowOf, termsIn, lineIn, linesAt, linesOf, weightsAt, capacityOf, Each, Misses, Once, Entered, Fits, inTurn}
 
 -- ---- what is made of each element of a list
 module _ {A B : Type 0} (f : A → B) where

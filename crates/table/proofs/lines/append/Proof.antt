@@ -1,7 +1,6 @@
 -- `append` meets its contract: the line is put in behind all others.
 use mathlib.Core.Path.{_≡_, sym, ap₂, subst, _∙_}
 use mathlib.Core.List.{List, [], _∷_, _++_}
-use Prim.Native.Nat.{_≤_}
 use native.Mathlib.Omega.{arith}
 use lib.Dec.{T}
 use lib.ListN.{take, drop, drop-of-length-le}
@@ -10,7 +9,7 @@ use denote.Ref.{now}
 use mir.Facts.{toZ-ofZ}
 use borrow.Author.Needs.{needs}
 use Rattle.configuration.specs.Configuration.{Line, line, some, Ordered}
-use Rattle.table.specs.Rows.{Table, linesOf, firstKey}
+use Rattle.table.specs.Rows.{Table, linesOf}
 use Rattle.table.specs.RowsLaws.{length-lines}
 use Rattle.table.proofs.Searches.{some-length, first-key}
 use Rattle.table.proofs.Written.{last-some}

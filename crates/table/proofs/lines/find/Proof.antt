@@ -1,6 +1,6 @@
 -- `find` meets its contract. The invariant: the place lies between the bounds, `f` stands before the line at the upper one, and the line that is
 -- looked at lies between them.
-use mathlib.Core.Path.{_≡_, refl, sym, _∙_}
+use mathlib.Core.Path.{refl, sym, _∙_}
 use mathlib.Core.Logic.{⊎-elim}
 use Prim.Native.Nat.{_-_, _<_, _≤_}
 use native.Mathlib.Omega.{arith}

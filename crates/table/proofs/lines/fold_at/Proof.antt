@@ -1,7 +1,7 @@
 -- `fold_at` meets its contract: at its place the line of a polynomial is weighed anew, taken out or put in, or nothing is done.
-use mathlib.Core.Path.{_≡_, ap, subst, sym}
+use mathlib.Core.Path.{_≡_, sym, ap, subst, _∙_}
 use mathlib.Core.Bool.{true, false, not}
-use mathlib.Core.List.{List, _∷_, _++_}
+use mathlib.Core.List.{_∷_, _++_}
 use Prim.Native.Nat.{suc, _<_}
 use native.Mathlib.Omega.{arith}
 use lib.IntN.{ℤ, _+ℤ_}
@@ -114,9 +114,15 @@ returns-2 c =
     let k = z .before in
     let s = begun k in
     let a = s .args in
-    let e : toZ w64 (ofZ w64 (toZ w64 (ofZ w64 (a .old)) +ℤ toZ w64 (ofZ w64 (a .amount)))) ≡ summed s = rw (sum-is s) (toZ-ofZ (sum-fits s)) in
-    let g = add-changed (s .pre .0) (placed s) (held k) (a .amount) (s .pre .1) (sum-nonzero z) in
-    rw (e, g) (weighed (s .pre .0) (a .at) (c .row-at .result) (now (a .f)) (summed s) (in-lines k) (c .row-at .ensures) (terms-here (s .pre .0) (placed s) (held k)) (subst Ordered g (added s)))
+    let q = s .pre .0 in
+    let L = linesOf (table s) in
+    let f = now (a .f) in
+    let x = toZ w64 (ofZ w64 (toZ w64 (ofZ w64 (a .old)) +ℤ toZ w64 (ofZ w64 (a .amount)))) in
+    let e : x ≡ summed s = rw (sum-is s) (toZ-ofZ (sum-fits s)) in
+    let g : add f (a .amount) L ≡ take (a .at) L ++ line f x ∷ drop (suc (a .at)) L =
+    add-changed q (placed s) (held k) (a .amount) (s .pre .1) (sum-nonzero z) ∙ ap (λ (w : ℤ). take (a .at) L ++ line f w ∷ drop (suc (a .at)) L) (sym e) in
+    let y = weighed q (a .at) (c .row-at .result) f x (in-lines k) (c .row-at .ensures) (terms-here q (placed s) (held k)) (subst Ordered g (added s)) in
+    (y .0 ∙ sym g, y .1)
 
 returns-3 : tie.Need-returns-3
 returns-3 c =

@@ -1,12 +1,11 @@
 -- `insert_line` meets its contract: the line comes into the first free row, and the order has an entry for it at its place.
-use mathlib.Core.Path.{_≡_, ap}
+use mathlib.Core.Path.{ap}
 use Prim.Native.Nat.{ℕ, _+_, _*_, _^_, _<_}
 use native.Mathlib.Omega.{arith}
 use lib.ListN.{length}
 use denote.Ref.{now}
 use mir.Facts.{toZ-ofZ}
 use borrow.Author.Needs.{needs}
-use Rattle.table.specs.Rows.{firstKey}
 use Rattle.table.specs.RowsLaws.{row-below}
 use Rattle.table.proofs.Searches.{first-small}
 use Rattle.table.proofs.Written.{inserted}

@@ -1,6 +1,5 @@
 -- `remove_line` meets its contract: the entry of the line goes behind those of the others.
 use borrow.Author.Needs.{needs}
-use denote.Ref.{now}
 use Rattle.table.proofs.Written.{removed}
 use Rattle.table.proofs.lines.remove_line.Statement.{statement}
 use Rattle.table.proofs.lines.remove_line.Tie as tie

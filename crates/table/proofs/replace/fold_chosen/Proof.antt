@@ -1,6 +1,6 @@
 -- `fold_chosen` meets its contract. The invariant: folding in the chosen lines from `i` on gives what folding in all of them gives, and the places of the
 -- lines from `i` on have moved by the change of the number of lines.
-use mathlib.Core.Path.{_≡_, refl, sym, ap, ap₂, _∙_, subst}
+use mathlib.Core.Path.{_≡_, sym, ap, ap₂, _∙_}
 use mathlib.Core.Logic.{⊎-elim}
 use mathlib.Core.Bool.{Bool, true, false, Bool·beq}
 use mathlib.Core.List.{List, map}
@@ -15,7 +15,7 @@ use mir.Syntax.{w64}
 use mir.Val.{toZ, ofZ}
 use borrow.Author.Needs.{needs}
 use Rattle.configuration.specs.Weight.{isZero}
-use Rattle.configuration.specs.Configuration.{Line, line, weight, add, placeOf}
+use Rattle.configuration.specs.Configuration.{Line, line, weight, placeOf}
 use Rattle.configuration.specs.PlaceLaws.{place-le}
 use Rattle.configuration.proofs.Areas.{read-back, zero-bits}
 use Rattle.table.specs.Rows.{Table, linesOf, firstKey, Fits}

@@ -1,7 +1,6 @@
 -- `fold_table` meets its contract: the lines that vanish leave room for the others, whose places are shifted, and the two passes do what one does.
 use mathlib.Core.Path.{_≡_, sym, _∙_}
 use mathlib.Core.List.{List}
-use Prim.Native.Nat.{ℕ, _≤_}
 use native.Mathlib.Omega.{arith}
 use lib.IntN.{ℤ}
 use lib.ListN.{length, take}
@@ -12,7 +11,6 @@ use Rattle.configuration.specs.Replacement.{shifted}
 use Rattle.table.specs.Rows.{Table, linesOf}
 use Rattle.table.specs.RowsLaws.{length-lines}
 use Rattle.table.specs.Replacing.{changedLines, Prepared}
-use Rattle.table.specs.declared.replace.Changes.{Changes}
 use Rattle.table.proofs.Foldings.{shifted-are, shifted-there, Passes, first-room, first-placed, last-room, last-placed, last-all}
 use Rattle.table.proofs.replace.fold_table.Statement.{statement}
 use Rattle.table.proofs.replace.fold_table.Tie as tie

@@ -6,7 +6,7 @@ use native.Mathlib.Omega.{arith}
 use lib.Dec.{T}
 use lib.IntN.{ℤ, pos}
 use lib.Signed.{mag}
-use lib.ListN.{length, getD}
+use lib.ListN.{getD}
 use mir.Syntax.{w64}
 use mir.Val.{toZ, ofZ}
 use Rattle.configuration.specs.Weight.{limit}
@@ -16,8 +16,6 @@ use Rattle.configuration.specs.ReplacementLaws.{in-range-mag}
 use Rattle.configuration.proofs.Areas.{read-back}
 use Rattle.table.specs.Rows.{Table, rowOf, termsIn, linesOf, firstKey, Fits}
 use Rattle.table.specs.RowsLaws.{length-lines, line-at, entered-at, line-some, held-below, row-fits, of-capacity}
-use Rattle.table.specs.Replacing.{changeOf}
-use Rattle.table.specs.declared.replace.Change.{Change}
 use Rattle.table.proofs.Searches.{none}
 use Rattle.table.proofs.Weighings.{Weighing, change-is, weighing-more, weighing-all, rows-all, sum-fits, sum-is, small-at}
 use Rattle.table.proofs.replace.weigh.Statement.{statement}
