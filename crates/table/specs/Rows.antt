@@ -94,6 +94,10 @@ pub record Fits (c : ℕ) (t : Table) : Type 0 where
   pub entered : Each (Entered t) (take (t .lines) (t .order))
   pub ordered : Ordered (linesOf t)
 
+-- a table fits and holds the lines L: what a function that changes it leaves
+abbrev pub Holds : ℕ → List Line → Table → Type 0
+Holds c L t = (linesOf t ≡ L) × Fits c t
+
 -- ---- keys
 -- how many entries at the front have a key above k
 unfoldable pub ahead : ℕ → List ℕ → ℕ

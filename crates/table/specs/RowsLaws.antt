@@ -10,7 +10,7 @@ use lib.IntN.{ℤ, pos}
 use lib.ListN.{length, getD, take, drop, length-map}
 use lib.Seq.{getD-take, getD-drop, drop-cons, length-take-le}
 use Rattle.configuration.specs.Weight.{inRange, allInRange, isNegative, noneNegative}
-use Rattle.configuration.specs.Configuration.{Line, line, some, Ordered, weightsFit, anyNegative}
+use Rattle.configuration.specs.Configuration.{Line, line, some, Behind, Ordered, weightsFit, anyNegative}
 use Rattle.table.specs.Rows.{Table, rowOf, termsIn, lineIn, linesAt, linesOf, weightsAt, capacityOf, Each, Misses, Once, Entered, Fits, inTurn}
 
 -- ---- what is made of each element of a list
@@ -171,6 +171,22 @@ fresh-fits c ts ws cs b lt lw lc = record {
   entered = tt;
   ordered = tt;
 }
+
+-- an empty table of four, as code writes its order
+pub four-order : 0 ∷ 1 ∷ 2 ∷ 3 ∷ [] ≡ inTurn 4 0
+unfolding inTurn
+four-order = refl
+
+-- lines that are put behind one another are in order as far as they have come
+behind-take : (f : List ℕ) (k : ℕ) (L : List Line) → Behind f L → Behind f (take k L)
+behind-take f zero L b = tt
+behind-take f (suc k) [] b = tt
+behind-take f (suc k) (line g u ∷ L) b = (b .0, behind-take f k L (b .1))
+
+pub ordered-take : (k : ℕ) (L : List Line) → Ordered L → Ordered (take k L)
+ordered-take zero L r = tt
+ordered-take (suc k) [] r = tt
+ordered-take (suc k) (line g u ∷ L) r = (r .0, (r .1 .0, (behind-take g k L (r .1 .1 .0), ordered-take k L (r .1 .1 .1))))
 
 -- ---- the capacity, as a function is asked for it that has the areas alone
 pub of-capacity : {c : ℕ} {t : Table} → Fits c t → Fits (capacityOf t) t

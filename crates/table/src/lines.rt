@@ -20,7 +20,7 @@ ghost use lib.ListN.{length, getD, take, drop};
 ghost use Rattle.polynomial.specs.Polynomial.{orderOf};
 ghost use Rattle.configuration.specs.Weight.{isNegative};
 ghost use Rattle.configuration.specs.Configuration.{line, some, weight, add, Ordered, placeOf, isHeld, anyNegative};
-ghost use Rattle.table.specs.Rows.{tableAt, tableBefore, tableAfter, rowOf, keyIn, linesOf, capacityOf, Once, firstKey, Fits};
+ghost use Rattle.table.specs.Rows.{tableAt, tableBefore, tableAfter, rowOf, keyIn, linesOf, capacityOf, Once, firstKey, Fits, Holds};
 
 // Where a polynomial stands, or would stand, among the lines, and whether it is held.
 pub struct Place {
@@ -162,9 +162,8 @@ fn insert_line(
 ) -> usize
     requires { let t = tableAt lines order terms weights counts in let c = capacityOf t in let L = linesOf t in let p = now f in
         ⌜ Fits c t × (at ≤ lines) × (lines < c) × T (some p) × (length p ≤ 64) × (first ≡ firstKey p) × Ordered (take at L ++ line p weight ∷ drop at L) ⌝ }
-    ensures lines { λ r. let L = linesOf (tableBefore lines order terms weights counts) in
-        ⌜ linesOf (tableAfter r order terms weights counts) ≡ take at L ++ line (now (f .entry)) weight ∷ drop at L ⌝ }
-    ensures fits { λ r. ⌜ Fits (capacityOf (tableBefore lines order terms weights counts)) (tableAfter r order terms weights counts) ⌝ }
+    ensures { λ r. let t = tableBefore lines order terms weights counts in let L = linesOf t in
+        ⌜ Holds (capacityOf t) (take at L ++ line (now (f .entry)) weight ∷ drop at L) (tableAfter r order terms weights counts) ⌝ }
 {
     let here = row_at(order, lines);
     insert_entry(order, at, lines, 128 * first + (here as u64));
@@ -184,9 +183,8 @@ fn remove_line(
     at: usize,
 ) -> usize
     requires { let t = tableAt lines order terms weights counts in ⌜ Fits (capacityOf t) t × (at < lines) ⌝ }
-    ensures lines { λ r. let L = linesOf (tableBefore lines order terms weights counts) in
-        ⌜ linesOf (tableAfter r order terms weights counts) ≡ take at L ++ drop (suc at) L ⌝ }
-    ensures fits { λ r. ⌜ Fits (capacityOf (tableBefore lines order terms weights counts)) (tableAfter r order terms weights counts) ⌝ }
+    ensures { λ r. let t = tableBefore lines order terms weights counts in let L = linesOf t in
+        ⌜ Holds (capacityOf t) (take at L ++ drop (suc at) L) (tableAfter r order terms weights counts) ⌝ }
 {
     let here = row_at(order, at);
     remove_entry(order, at, lines, here as u64);
@@ -210,9 +208,8 @@ pub fn fold_at(
     requires { let t = tableAt lines order terms weights counts in let c = capacityOf t in let L = linesOf t in let p = now f in
         ⌜ Fits c t × T (some p) × (length p ≤ 64) × (first ≡ firstKey p) × (at ≡ placeOf p L) × (old ≡ weight L p)
         × (mag (weight L p +ℤ amount) < 2 ^ 63) × (length (add p amount L) ≤ c) ⌝ }
-    ensures lines { λ r. let L = linesOf (tableBefore lines order terms weights counts) in
-        ⌜ linesOf (tableAfter r order terms weights counts) ≡ add (now (f .entry)) amount L ⌝ }
-    ensures fits { λ r. ⌜ Fits (capacityOf (tableBefore lines order terms weights counts)) (tableAfter r order terms weights counts) ⌝ }
+    ensures { λ r. let t = tableBefore lines order terms weights counts in let L = linesOf t in
+        ⌜ Holds (capacityOf t) (add (now (f .entry)) amount L) (tableAfter r order terms weights counts) ⌝ }
 {
     if old != 0 {
         let sum = old + amount;
@@ -242,9 +239,8 @@ pub fn fold_in(
 ) -> usize
     requires { let t = tableAt lines order terms weights counts in let c = capacityOf t in let L = linesOf t in let p = now f in
         ⌜ Fits c t × (length p ≤ 64) × (mag (weight L p +ℤ amount) < 2 ^ 63) × (length (add p amount L) ≤ c) ⌝ }
-    ensures lines { λ r. let L = linesOf (tableBefore lines order terms weights counts) in
-        ⌜ linesOf (tableAfter r order terms weights counts) ≡ add (now (f .entry)) amount L ⌝ }
-    ensures fits { λ r. ⌜ Fits (capacityOf (tableBefore lines order terms weights counts)) (tableAfter r order terms weights counts) ⌝ }
+    ensures { λ r. let t = tableBefore lines order terms weights counts in let L = linesOf t in
+        ⌜ Holds (capacityOf t) (add (now (f .entry)) amount L) (tableAfter r order terms weights counts) ⌝ }
 {
     if f.len() == Polynomial::ZERO.count {
         return lines;
@@ -277,9 +273,8 @@ pub fn append(
 ) -> usize
     requires { let t = tableAt lines order terms weights counts in let c = capacityOf t in let p = now f in
         ⌜ Fits c t × (lines < c) × (length p ≤ 64) × Ordered (linesOf t ++ line p weight ∷ []) ⌝ }
-    ensures lines { λ r. let L = linesOf (tableBefore lines order terms weights counts) in
-        ⌜ linesOf (tableAfter r order terms weights counts) ≡ L ++ line (now (f .entry)) weight ∷ [] ⌝ }
-    ensures fits { λ r. ⌜ Fits (capacityOf (tableBefore lines order terms weights counts)) (tableAfter r order terms weights counts) ⌝ }
+    ensures { λ r. let t = tableBefore lines order terms weights counts in let L = linesOf t in
+        ⌜ Holds (capacityOf t) (L ++ line (now (f .entry)) weight ∷ []) (tableAfter r order terms weights counts) ⌝ }
 {
     let first = key(f[0]);
     insert_line(

@@ -21,7 +21,7 @@ ghost use lib.ListN.{length, take};
 ghost use Rattle.configuration.specs.Weight.{isZero, allInRange};
 ghost use Rattle.configuration.specs.Configuration.{line, addAll, weightsFit};
 ghost use Rattle.configuration.specs.Replacement.{Small, Room, Placed, shifted, countHeld, chosen};
-ghost use Rattle.table.specs.Rows.{tableAt, tableBefore, tableAfter, linesOf, Fits};
+ghost use Rattle.table.specs.Rows.{tableAt, tableBefore, tableAfter, linesOf, Fits, Holds};
 ghost use Rattle.table.specs.Replacing.{changeOf, changedLines, Prepared, Weighed, verdictOf, replacedOf, replaced};
 
 // A line that is to be folded in: the row of its terms, how many they are, the key of the first, and the amount.
@@ -170,10 +170,8 @@ fn fold_chosen(
         let N = changedLines (now «new_terms») changes in let A = take n (changes .after) in
         ⌜ Fits 128 t × Prepared (now «new_terms») changes × Placed vanishing A N (take n (changes .places)) (take n (changes .before)) L
         × Room (chosen vanishing A N) L ⌝ }
-    ensures lines { λ r. let L = linesOf (tableBefore lines order terms weights counts) in
-        let N = changedLines (now («new_terms» .entry)) changes in
-        ⌜ linesOf (tableAfter r order terms weights counts) ≡ addAll (chosen vanishing (take (changes .many) (changes .after)) N) L ⌝ }
-    ensures fits { λ r. ⌜ Fits 128 (tableAfter r order terms weights counts) ⌝ }
+    ensures { λ r. let L = linesOf (tableBefore lines order terms weights counts) in let N = changedLines (now («new_terms» .entry)) changes in
+        ⌜ Holds 128 (addAll (chosen vanishing (take (changes .many) (changes .after)) N) L) (tableAfter r order terms weights counts) ⌝ }
 {
     let many = changes.many;
     let rows = changes.rows;
@@ -220,9 +218,8 @@ fn fold_table(
     requires { let t = tableAt lines order terms weights counts in let L = linesOf t in let n = changes .many in
         let N = changedLines (now «new_terms») changes in
         ⌜ Fits 128 t × Prepared (now «new_terms») changes × Weighed n N L changes × T (allInRange (take n (changes .after))) × (length (addAll N L) ≤ 128) ⌝ }
-    ensures lines { λ r. let L = linesOf (tableBefore lines order terms weights counts) in
-        ⌜ linesOf (tableAfter r order terms weights counts) ≡ addAll (changedLines (now («new_terms» .entry)) changes) L ⌝ }
-    ensures fits { λ r. ⌜ Fits 128 (tableAfter r order terms weights counts) ⌝ }
+    ensures { λ r. let L = linesOf (tableBefore lines order terms weights counts) in let N = changedLines (now («new_terms» .entry)) changes in
+        ⌜ Holds 128 (addAll N L) (tableAfter r order terms weights counts) ⌝ }
 {
     let fewer = fold_chosen(
         lines,
