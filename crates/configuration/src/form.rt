@@ -128,7 +128,7 @@ fn lines_fit(variables: u32, lines: usize, terms: &[u32], weights: &[i64], count
     true
 }
 
-// Whether the first weights of a run are within the limit. It is for this crate alone, which lends a run that is long enough.
+// Whether the first weights of a run are within the limit. It is for this crate and `table`, which lend a run that is long enough.
 pub fn weights_fit(lines: usize, weights: &[i64]) -> bool
     requires { ⌜ lines ≤ length (now weights) ⌝ }
     ensures { λ r. ⌜ r ≡ allInRange (take lines (now (weights .entry))) ⌝ }

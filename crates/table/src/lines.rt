@@ -28,7 +28,7 @@ pub struct Place {
     pub held: bool,
 }
 
-// The terms in a row: a part of the area.
+// The terms in a row: a part of the area. It is for this crate and those that read a table line by line.
 pub fn row(terms: &[u32], i: usize, count: usize) -> &[u32]
     requires { ⌜ 64 * i + count ≤ length (now terms) ⌝ }
     ensures { λ r. ⌜ now r ≡ take count (drop (64 * i) (now (terms .entry))) ⌝ }

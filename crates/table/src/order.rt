@@ -6,7 +6,7 @@ ghost use lib.ListN.{length, getD, take, drop};
 ghost use lib.Seq.{slice};
 ghost use Rattle.table.specs.Rows.{rowOf, keyIn, ahead as leading, Falling, inTurn};
 
-// The row of the line at a place.
+// The row of the line at a place. It is for this crate and those that read a table line by line.
 pub fn row_at(order: &[u64], at: usize) -> usize
     requires { ⌜ at < length (now order) ⌝ }
     ensures { λ r. ⌜ r ≡ rowOf (getD (now (order .entry)) at 0) ⌝ }
