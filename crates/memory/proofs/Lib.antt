@@ -1,0 +1,7 @@
+pub mod Locals
+pub mod Lending
+pub mod Calling
+pub mod Walking
+pub mod Filling
+pub mod Slices
+pub mod Elements

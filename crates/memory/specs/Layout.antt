@@ -1,0 +1,26 @@
+-- The layout as code goes through it, row by row: every place that no line uses is zero.
+use mathlib.Core.Bool.{Bool, true, _&&_}
+use mathlib.Core.List.{List, [], _∷_}
+use Prim.Native.Nat.{ℕ}
+use lib.Dec.{eqb, leb}
+use lib.ListN.{drop}
+use lib.Seq.{slice}
+use Rattle.configuration.specs.Weight.{isZero}
+use Rattle.configuration.specs.Memory.{zeros}
+use Rattle.memory.specs.declared.Entry.{Entry}
+
+-- an entry counts at most 64 terms, and the places of its row behind them are zero
+abbrev pub rowCleared : List ℕ → Entry → Bool
+rowCleared ts e = leb (e .count) 64 && zeros (slice (e .count) 64 ts)
+
+unfoldable pub cleared : List ℕ → List Entry → Bool
+cleared ts [] = true
+cleared ts (e ∷ t) = rowCleared ts e && cleared (drop 64 ts) t
+
+-- no entry is used
+abbrev pub isUnused : Entry → Bool
+isUnused e = isZero (e .weight) && eqb (e .count) 0
+
+unfoldable pub allUnused : List Entry → Bool
+allUnused [] = true
+allUnused (e ∷ t) = isUnused e && allUnused t

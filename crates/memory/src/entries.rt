@@ -1,0 +1,58 @@
+// The line table as it is lent, and by value. `line_at` and `set_line` alone touch a record of a lent table.
+use crate::Entry;
+ghost use mathlib.Core.Path.{_≡_};
+ghost use Prim.Native.Nat.{_<_};
+ghost use lib.ListN.{length, getD, set, replicate};
+ghost use Rattle.memory.specs.Memory.{unused};
+
+// A table in which no line is held.
+pub fn no_entries() -> [Entry; 128]
+    ensures { λ r. ⌜ r ≡ replicate 128 unused ⌝ }
+{
+    [Entry {
+        weight: 0,
+        count: 0,
+    }; 128]
+}
+
+// The record of a line.
+pub fn line_at(table: &[Entry], i: usize) -> Entry
+    requires { ⌜ i < length (now table) ⌝ }
+    ensures { λ r. ⌜ r ≡ getD (now (table .entry)) i unused ⌝ }
+{
+    table[i]
+}
+
+// Replaces the record of a line.
+pub fn set_line(table: &mut [Entry], i: usize, entry: Entry)
+    requires { ⌜ i < length (now table) ⌝ }
+    ensures { λ _. ⌜ now (table .exit) ≡ set (now (table .entry)) i entry ⌝ }
+{
+    table[i] = entry;
+}
+
+// Reads a table.
+pub fn load(table: &[Entry]) -> [Entry; 128]
+    requires { ⌜ length (now table) ≡ 128 ⌝ }
+    ensures { λ r. ⌜ r ≡ now (table .entry) ⌝ }
+{
+    let mut entries = no_entries();
+    let mut i: usize = 0;
+    while i < table.len() {
+        entries[i] = line_at(table, i);
+        i += 1;
+    }
+    entries
+}
+
+// Writes a table.
+pub fn store(table: &mut [Entry], entries: [Entry; 128])
+    requires { ⌜ length (now table) ≡ 128 ⌝ }
+    ensures { λ _. ⌜ now (table .exit) ≡ entries ⌝ }
+{
+    let mut i: usize = 0;
+    while i < table.len() {
+        set_line(table, i, entries[i]);
+        i += 1;
+    }
+}

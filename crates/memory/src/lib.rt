@@ -1,0 +1,15 @@
+// What callers lend, and the working form of what it holds: the head, the term area and the line table, whether they are well
+// formed, and how lines are read from them and written back.
+pub mod entries;
+
+// The head of a configuration: how many variables the problem has, and how many lines are held.
+pub struct Head {
+    pub variables: u32,
+    pub lines: u32,
+}
+
+// The record of a line in the line table: its weight, and how many terms it has.
+pub struct Entry {
+    pub weight: i64,
+    pub count: u32,
+}
