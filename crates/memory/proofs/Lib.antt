@@ -5,3 +5,4 @@ pub mod Walking
 pub mod Filling
 pub mod Slices
 pub mod Elements
+pub mod Forms

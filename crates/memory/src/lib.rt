@@ -1,6 +1,7 @@
 // What callers lend, and the working form of what it holds: the head, the term area and the line table, whether they are well
 // formed, and how lines are read from them and written back.
 pub mod entries;
+pub mod form;
 
 // The head of a configuration: how many variables the problem has, and how many lines are held.
 pub struct Head {

@@ -1,0 +1,208 @@
+-- The steps of the test 'well formed', over plain lists: a line, the rows of a term area, the entries behind the lines, the lines one by one, and the parts of the whole test.
+use mathlib.Core.Path.{_≡_, refl, sym, ap, _∙_}
+use mathlib.Core.Bool.{Bool, true, false, not, _&&_, true≢false}
+use mathlib.Core.List.{List, [], _∷_}
+use Prim.Native.Nat.{ℕ, zero, suc, _+_, _-_, _*_, _≤_, _<_}
+use native.Mathlib.Nat.{le-of-suc-le-suc, not-suc-le-zero}
+use native.Mathlib.Numerals.{add-one}
+use native.Mathlib.Omega.{arith}
+use lib.Dec.{T}
+use lib.IntN.{ℤ, pos}
+use lib.ListN.{length, getD, take, drop, length-drop, drop-of-length-le}
+use lib.Seq.{slice, take-add, drop-at, drop-cons, drop-drop, length-take-le}
+use borrow.Author.Tests.{lt-leb, le-leb}
+use Rattle.run.specs.Boolean.{is-true, is-false, left, right, both, bool-ext}
+use Rattle.polynomial.specs.Polynomial.{orderOf}
+use Rattle.configuration.specs.Weight.{inRange}
+use Rattle.configuration.specs.Configuration.{Line, line, byOrder, lineFits, linesFit, weightsFit}
+use Rattle.configuration.specs.Memory.{zeros}
+use Rattle.memory.specs.declared.Entry.{Entry}
+use Rattle.memory.specs.Memory.{Memory, readLines, unused, standingOf, wellFormed}
+use Rattle.memory.specs.MemoryLaws.{length-read, row-short, first-cleared, rest-cleared, Formed, well-formed, formed-well}
+use Rattle.memory.specs.Layout.{rowCleared, cleared, isUnused, allUnused}
+
+-- ---- tests
+pub and-false : (a b : Bool) → b ≡ false → (a && b) ≡ false
+and-false true b e = e
+and-false false b e = refl
+
+pub and-true : (a b : Bool) → b ≡ true → (a && b) ≡ a
+and-true true b e = e
+and-true false b e = refl
+
+both-true : (a b : Bool) → (a && b) ≡ true → (a ≡ true) × (b ≡ true)
+both-true true b e = (refl, e)
+both-true false b e = absurd (true≢false (sym e))
+
+-- two pairs of tests in which the first of each fail or hold together
+none-of : (a b c d : Bool) → (a && c) ≡ false → ((a && b) && (c && d)) ≡ false
+none-of true b true d e = absurd (true≢false e)
+none-of true b false d e = and-false b false refl
+none-of false b c d e = refl
+
+and-assoc : (a b c : Bool) → ((a && b) && c) ≡ (a && (b && c))
+and-assoc true b c = refl
+and-assoc false b c = refl
+
+-- ---- a row of a term area
+part : (a n : ℕ) (l : List ℕ) → a + n ≤ length l → drop a (take (a + n) l) ≡ take n (drop a l)
+part a n l h = ap (drop a) (take-add a n l) ∙ drop-at (take a l) (take n (drop a l)) a (length-take-le a l (omega arith))
+
+module _ (i : ℕ) (ts : List ℕ) (e : Entry) where
+  pub row-long : 64 < e .count → false ≡ rowCleared (drop (64 * i) ts) e
+  row-long h = rw (lt-leb (e .count) 64 h)
+
+  -- the places behind the terms, as code takes them
+  pub row-places : e .count ≤ 64 → 64 * i + 64 ≤ length ts
+      → zeros (take (64 * i + 64 - (64 * i + e .count)) (drop (64 * i + e .count) ts)) ≡ rowCleared (drop (64 * i) ts) e
+  row-places h k =
+      let n : ℕ = e .count in
+      let m : ℕ = 64 * i + 64 - (64 * i + n) in
+      let s : n + m ≡ 64 = omega arith in
+      let l : n + m ≤ length (drop (64 * i) ts) = omega (arith, length-drop (64 * i) ts) in
+      let z : take m (drop (64 * i + n) ts) ≡ slice n 64 (drop (64 * i) ts) =
+      ap (take m) (sym (drop-drop n (64 * i) ts)) ∙ sym (part n m (drop (64 * i) ts) l) ∙ ap (λ (x : ℕ). slice n x (drop (64 * i) ts)) s in
+      rw (z, le-leb n 64 h)
+
+-- ---- the rows of a term area
+module _ (i : ℕ) (ts : List ℕ) (t : List Entry) (whole : Bool) (inv : cleared (drop (64 * i) ts) (drop i t) ≡ whole) where
+  module _ (h : i < length t) where
+    next-row : cleared (drop (64 * i) ts) (drop i t) ≡ (rowCleared (drop (64 * i) ts) (getD t i unused) && cleared (drop (64 * (i + 1)) ts) (drop (i + 1) t))
+    unfolding cleared
+    next-row =
+        let e : 64 * i + 64 ≡ 64 * (i + 1) = omega arith in
+        ap (cleared (drop (64 * i) ts)) (drop-cons t i unused h) ∙ rw (drop-drop 64 (64 * i) ts, e, add-one i)
+
+    pub row-used : rowCleared (drop (64 * i) ts) (getD t i unused) ≡ false → false ≡ whole
+    row-used e = sym (rw e at next-row) ∙ inv
+
+    pub row-unused : rowCleared (drop (64 * i) ts) (getD t i unused) ≡ true → cleared (drop (64 * (i + 1)) ts) (drop (i + 1) t) ≡ whole
+    row-unused e = sym (rw e at next-row) ∙ inv
+
+  pub rows-end : length t ≤ i → true ≡ whole
+  unfolding cleared
+  rows-end h = sym (ap (cleared (drop (64 * i) ts)) (drop-of-length-le t h)) ∙ inv
+
+-- ---- the entries behind the lines
+module _ (i : ℕ) (t : List Entry) (whole : Bool) (inv : allUnused (drop i t) ≡ whole) where
+  module _ (h : i < length t) where
+    next-entry : allUnused (drop i t) ≡ (isUnused (getD t i unused) && allUnused (drop (i + 1) t))
+    unfolding allUnused
+    next-entry = ap allUnused (drop-cons t i unused h) ∙ rw (add-one i)
+
+    pub entry-used : isUnused (getD t i unused) ≡ false → false ≡ whole
+    entry-used e = sym (rw e at next-entry) ∙ inv
+
+    pub entry-unused : isUnused (getD t i unused) ≡ true → allUnused (drop (i + 1) t) ≡ whole
+    entry-unused e = sym (rw e at next-entry) ∙ inv
+
+  pub entries-end : length t ≤ i → true ≡ whole
+  unfolding allUnused
+  entries-end h = sym (ap allUnused (drop-of-length-le t h)) ∙ inv
+
+-- ---- the lines that are read, one by one
+-- every line has at most 64 terms
+pub cleared-short : (i : ℕ) (ts : List ℕ) (t : List Entry) → T (cleared ts t) → i < length t → getD t i unused .count ≤ 64
+cleared-short i ts [] h l = absurd (not-suc-le-zero l)
+cleared-short zero ts (e ∷ t) h l = row-short ts e (first-cleared ts e t h)
+cleared-short (suc i) ts (e ∷ t) h l = cleared-short i (drop 64 ts) t (rest-cleared ts e t h) (le-of-suc-le-suc l)
+
+abbrev pub lineIn : List ℕ → List Entry → ℕ → Line
+lineIn ts t i = line (take (getD t i unused .count) (drop (64 * i) ts)) (getD t i unused .weight)
+
+pub line-read : (k i : ℕ) (ts : List ℕ) (t : List Entry) (d : Line) → i < k → k ≤ length t → getD (readLines k ts t) i d ≡ lineIn ts t i
+unfolding readLines
+line-read zero i ts t d h l = absurd (not-suc-le-zero h)
+line-read (suc k) i ts [] d h l = absurd (not-suc-le-zero l)
+line-read (suc k) zero ts (e ∷ t) d h l = refl
+line-read (suc k) (suc i) ts (e ∷ t) d h l =
+    let s : 64 + 64 * i ≡ 64 * suc i = omega arith in
+    line-read k i (drop 64 ts) t d (le-of-suc-le-suc h) (le-of-suc-le-suc l) ∙ rw (drop-drop (64 * i) 64 ts, s)
+
+abbrev pub Fit : ℕ → List Line → Bool
+Fit n L = linesFit n L && weightsFit L
+
+module _ (n : ℕ) (f : List ℕ) (w : ℤ) where
+  misfit : (L : List Line) → (lineFits n (line f w) && inRange w) ≡ false → Fit n (line f w ∷ L) ≡ false
+  unfolding linesFit weightsFit
+  misfit [] e = rw (and-true (lineFits n (line f w)) true refl) at (none-of (lineFits n (line f w)) true (inRange w) true e)
+  misfit (line g u ∷ L) e = none-of (lineFits n (line f w)) _ (inRange w) _ e
+
+  fit-last : (lineFits n (line f w) && inRange w) ≡ true → Fit n (line f w ∷ []) ≡ true
+  unfolding linesFit weightsFit
+  fit-last e = let p = both-true (lineFits n (line f w)) (inRange w) e in rw (p .0, p .1)
+
+  fit-pair : (g : List ℕ) (u : ℤ) (L : List Line) → (lineFits n (line f w) && inRange w) ≡ true
+      → Fit n (line f w ∷ line g u ∷ L) ≡ (byOrder (orderOf f g) true false false && Fit n (line g u ∷ L))
+  unfolding linesFit weightsFit
+  fit-pair g u L e =
+      let p = both-true (lineFits n (line f w)) (inRange w) e in
+      rw (p .0, p .1) (and-assoc (byOrder (orderOf f g) true false false) (linesFit n (line g u ∷ L)) (weightsFit (line g u ∷ L)))
+
+module _ (n k i : ℕ) (ts : List ℕ) (t : List Entry) (b : k ≤ length t) (inv : Fit n (drop i (readLines k ts t)) ≡ Fit n (readLines k ts t)) where
+  abbrev L : List Line
+  L = readLines k ts t
+
+  here : (j : ℕ) → j < k → drop j L ≡ lineIn ts t j ∷ drop (j + 1) L
+  here j h =
+      let d : Line = line [] (pos 0) in
+      let l : j < length L = omega (arith, length-read k ts t b) in
+      drop-cons L j d l ∙ rw (line-read k j ts t d h b, add-one j)
+
+  abbrev Here : Bool
+  Here = lineFits n (lineIn ts t i) && inRange (getD t i unused .weight)
+
+  pub line-misfit : i < k → Here ≡ false → false ≡ Fit n L
+  line-misfit h e = sym (misfit n _ _ (drop (i + 1) L) e) ∙ (rw (here i h) at inv)
+
+  module _ (h : i + 1 < k) (e : Here ≡ true) where
+    abbrev InOrder : Bool
+    InOrder = byOrder (orderOf (take (getD t i unused .count) (drop (64 * i) ts)) (take (getD t (i + 1) unused .count) (drop (64 * (i + 1)) ts))) true false false
+
+    pair : Fit n (drop i L) ≡ (InOrder && Fit n (drop (i + 1) L))
+    pair =
+        let l : i < k = omega arith in
+        ap (Fit n) (here i l ∙ ap (λ (M : List Line). lineIn ts t i ∷ M) (here (i + 1) h)) ∙ fit-pair n _ _ _ _ (drop (i + 1 + 1) L) e
+        ∙ ap (λ (M : List Line). InOrder && Fit n M) (sym (here (i + 1) h))
+
+    pub out-of-order : InOrder ≡ false → false ≡ Fit n L
+    out-of-order o = sym (rw o at pair) ∙ inv
+
+    pub ordered-pair : InOrder ≡ true → Fit n (drop (i + 1) L) ≡ Fit n L
+    ordered-pair o = sym (rw o at pair) ∙ inv
+
+  none-left : (j : ℕ) → k ≤ j → drop j L ≡ []
+  none-left j h =
+      let l : length L ≤ j = omega (arith, length-read k ts t b) in
+      drop-of-length-le L l
+
+  pub last-line : i < k → k ≤ i + 1 → Here ≡ true → Fit n (drop (i + 1) L) ≡ Fit n L
+  unfolding linesFit weightsFit
+  last-line h l e =
+      let z : drop i L ≡ lineIn ts t i ∷ [] = here i h ∙ ap (λ (M : List Line). lineIn ts t i ∷ M) (none-left (i + 1) l) in
+      ap (Fit n) (none-left (i + 1) l) ∙ sym (fit-last n _ _ e) ∙ sym (ap (Fit n) z) ∙ inv
+
+  pub lines-end : k ≤ i → true ≡ Fit n L
+  unfolding linesFit weightsFit
+  lines-end h = sym (ap (Fit n) (none-left i h)) ∙ inv
+
+-- ---- the whole test
+pub not-well : (m : Memory) → (Formed m → ⊥) → false ≡ wellFormed m
+not-well m h = sym (is-false (wellFormed m) (λ t. h (well-formed m t)))
+
+pub the-lines : (m : Memory) → length (m .terms) ≡ 8192 → length (m .table) ≡ 128 → m .lines ≤ 128 → m .variables ≤ 32 → T (cleared (m .terms) (m .table))
+    → T (allUnused (drop (m .lines) (m .table))) → (linesFit (m .variables) (standingOf m) && weightsFit (standingOf m)) ≡ wellFormed m
+the-lines m lt le r v c u =
+    let a : Bool = linesFit (m .variables) (standingOf m) in
+    let b : Bool = weightsFit (standingOf m) in
+    bool-ext (a && b) (wellFormed m)
+    (λ h. formed-well m (record {
+      terms-length = lt;
+      table-length = le;
+      room = r;
+      variables = v;
+      rows = c;
+      behind = u;
+      fit = left a b h;
+      weights = right a b h;
+    })) (λ h. let q = well-formed m h in both a b (q .fit) (q .weights))

@@ -1,0 +1,178 @@
+// The test 'well formed'.
+use crate::Entry;
+use crate::Head;
+use configuration::area::is_zero;
+use configuration::form::is_below;
+use polynomial::Ordering;
+use polynomial::Polynomial;
+use polynomial::order::compare;
+use polynomial::order::in_order;
+use table::lines::row;
+ghost use mathlib.Core.Path.{_≡_};
+ghost use mathlib.Core.Bool.{true, false, _&&_};
+ghost use Prim.Native.Nat.{_+_, _*_, _≤_};
+ghost use lib.Dec.{T};
+ghost use lib.ListN.{length, drop};
+ghost use Rattle.polynomial.specs.Polynomial.{orderOf};
+ghost use Rattle.configuration.specs.Weight.{inRange};
+ghost use Rattle.configuration.specs.Configuration.{line, byOrder, isPolynomial, lineFits, linesFit, weightsFit};
+ghost use Rattle.memory.specs.Memory.{readLines, memoryBefore, wellFormed};
+ghost use Rattle.memory.specs.Layout.{rowCleared, cleared, isUnused, allUnused};
+
+// Whether a weight is from -10^12 to 10^12.
+fn within_limit(weight: i64) -> bool
+    ensures { λ r. ⌜ r ≡ inRange weight ⌝ }
+{
+    if weight < -1000000000000 {
+        return false;
+    }
+    weight <= 1000000000000
+}
+
+// Whether a run of terms is a polynomial of so many variables.
+fn is_polynomial(variables: u32, terms: &[u32]) -> bool
+    ensures { λ r. ⌜ r ≡ isPolynomial variables (now (terms .entry)) ⌝ }
+{
+    if 64 < terms.len() {
+        return false;
+    }
+    if !is_below(variables, terms) {
+        return false;
+    }
+    in_order(terms)
+}
+
+// Whether a line may be held, with its weight in range.
+fn line_fits(variables: u32, terms: &[u32], weight: i64) -> bool
+    ensures { λ r. ⌜ r ≡ (lineFits variables (line (now (terms .entry)) weight) && inRange weight) ⌝ }
+{
+    if terms.len() == Polynomial::ZERO.count {
+        return false;
+    }
+    if weight == 0 {
+        return false;
+    }
+    if !within_limit(weight) {
+        return false;
+    }
+    is_polynomial(variables, terms)
+}
+
+// Whether a polynomial stands before another.
+fn stands_before(f: &[u32], g: &[u32]) -> bool
+    ensures { λ r. ⌜ r ≡ byOrder (orderOf (now (f .entry)) (now (g .entry))) true false false ⌝ }
+{
+    let order = compare(f, g);
+    let Ordering::Earlier = order else {
+        return false;
+    };
+    true
+}
+
+// Whether an entry counts at most 64 terms, and the places of its row behind them are zero.
+fn row_cleared(terms: &[u32], i: usize, entry: Entry) -> bool
+    requires { ⌜ 64 * i + 64 ≤ length (now terms) ⌝ }
+    ensures { λ r. ⌜ r ≡ rowCleared (drop (64 * i) (now (terms .entry))) entry ⌝ }
+{
+    let count = entry.count as usize;
+    if 64 < count {
+        return false;
+    }
+    let start = 64 * i + count;
+    let end = 64 * i + 64;
+    is_zero(&terms[start..end])
+}
+
+// Whether the places of a term area that no entry counts are zero.
+fn rows_cleared(terms: &[u32], entries: [Entry; 128]) -> bool
+    requires { ⌜ length (now terms) ≡ 8192 ⌝ }
+    ensures { λ r. ⌜ r ≡ cleared (now (terms .entry)) entries ⌝ }
+{
+    let mut i: usize = 0;
+    while i < 128 {
+        let entry = entries[i];
+        if !row_cleared(terms, i, entry) {
+            return false;
+        }
+        i += 1;
+    }
+    true
+}
+
+// Whether an entry is that of no line.
+fn is_unused(entry: Entry) -> bool
+    ensures { λ r. ⌜ r ≡ isUnused entry ⌝ }
+{
+    let weight = entry.weight;
+    if weight != 0 {
+        return false;
+    }
+    entry.count == 0
+}
+
+// Whether the entries behind the first lines are those of no line.
+fn none_behind(lines: usize, entries: [Entry; 128]) -> bool
+    requires { ⌜ lines ≤ 128 ⌝ }
+    ensures { λ r. ⌜ r ≡ allUnused (drop lines entries) ⌝ }
+{
+    let mut i = lines;
+    while i < 128 {
+        let entry = entries[i];
+        if !is_unused(entry) {
+            return false;
+        }
+        i += 1;
+    }
+    true
+}
+
+// Whether the first lines of a table may be held, and stand in order.
+fn lines_fit(variables: u32, lines: usize, terms: &[u32], entries: [Entry; 128]) -> bool
+    requires { ⌜ (length (now terms) ≡ 8192) × (lines ≤ 128) × T (cleared (now terms) entries) ⌝ }
+    ensures { λ r. let L = readLines lines (now (terms .entry)) entries in ⌜ r ≡ (linesFit variables L && weightsFit L) ⌝ }
+{
+    let mut i: usize = 0;
+    while i < lines {
+        let entry = entries[i];
+        let count = entry.count as usize;
+        let weight = entry.weight;
+        let here = row(terms, i, count);
+        if !line_fits(variables, here, weight) {
+            return false;
+        }
+        let next = i + 1;
+        if next < lines {
+            let other = entries[next];
+            let size = other.count as usize;
+            if !stands_before(here, row(terms, next, size)) {
+                return false;
+            }
+        }
+        i = next;
+    }
+    true
+}
+
+// Whether a lent memory, its term area of any length and contents, is well formed.
+pub fn well_formed(head: Head, terms: &[u32], entries: [Entry; 128]) -> bool
+    ensures { λ r. ⌜ r ≡ wellFormed (memoryBefore head terms entries) ⌝ }
+{
+    if terms.len() != 8192 {
+        return false;
+    }
+    let lines = head.lines as usize;
+    if 128 < lines {
+        return false;
+    }
+    let variables = head.variables;
+    if 32 < variables {
+        return false;
+    }
+    if !rows_cleared(terms, entries) {
+        return false;
+    }
+    if !none_behind(lines, entries) {
+        return false;
+    }
+    lines_fit(variables, lines, terms, entries)
+}
