@@ -6,3 +6,4 @@ pub mod Filling
 pub mod Slices
 pub mod Elements
 pub mod Forms
+pub mod Openings

@@ -2,6 +2,7 @@
 // formed, and how lines are read from them and written back.
 pub mod entries;
 pub mod form;
+pub mod open;
 
 // The head of a configuration: how many variables the problem has, and how many lines are held.
 pub struct Head {

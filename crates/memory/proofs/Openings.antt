@@ -1,0 +1,45 @@
+-- A table that holds the first lines of a configuration, and the next one put behind them.
+use mathlib.Core.Path.{_≡_, refl, sym, ap, subst, _∙_}
+use mathlib.Core.List.{List, [], _∷_, _++_}
+use Prim.Native.Nat.{ℕ, zero, suc, _*_, _≤_, _<_}
+use native.Mathlib.Omega.{arith}
+use lib.IntN.{ℤ, pos}
+use lib.ListN.{length, getD, take}
+use lib.Seq.{take-suc, take-all, length-take-le}
+use Rattle.configuration.specs.Configuration.{Line, line, Behind, Ordered}
+use Rattle.configuration.specs.ConfigurationLaws.{fit-ordered}
+use Rattle.table.specs.Rows.{Table, linesOf, Fits, inTurn}
+use Rattle.table.specs.RowsLaws.{length-lines, fresh-fits}
+
+pub none : Line
+none = line [] (pos 0)
+
+behind-take : (f : List ℕ) (k : ℕ) (L : List Line) → Behind f L → Behind f (take k L)
+behind-take f zero L b = tt
+behind-take f (suc k) [] b = tt
+behind-take f (suc k) (line g u ∷ L) b = (b .0, behind-take f k L (b .1))
+
+ordered-take : (k : ℕ) (L : List Line) → Ordered L → Ordered (take k L)
+ordered-take zero L r = tt
+ordered-take (suc k) [] r = tt
+ordered-take (suc k) (line g u ∷ L) r = (r .0, (r .1 .0, (behind-take g k L (r .1 .1 .0), ordered-take k L (r .1 .1 .1))))
+
+-- a table in which no line is yet
+pub fresh : (is : List ℕ) (ts : List ℕ) (ws : List ℤ) (cs : List ℕ) → is ≡ inTurn 128 0 → length ts ≡ 8192 → length ws ≡ 128 → length cs ≡ 128
+    → Fits 128 (record { lines = 0; order = is; terms = ts; weights = ws; counts = cs })
+fresh is ts ws cs e lt lw lc =
+    subst (λ (os : List ℕ). Fits 128 (record { lines = 0; order = os; terms = ts; weights = ws; counts = cs })) (sym e) (fresh-fits 128 ts ws cs (omega arith) (omega arith) lw lc)
+
+module _ (L : List Line) (t : Table) (e : linesOf t ≡ take (t .lines) L) (b : t .lines < length L) (f : List ℕ) (w : ℤ) (x : getD L (t .lines) none ≡ line f w) where
+  grown : linesOf t ++ line f w ∷ [] ≡ take (suc (t .lines)) L
+  grown = ap (λ (M : List Line). M ++ line f w ∷ []) e ∙ ap (λ (l : Line). take (t .lines) L ++ l ∷ []) (sym x) ∙ sym (take-suc L (t .lines) none b)
+
+  pub next-ordered : Ordered L → Ordered (linesOf t ++ line f w ∷ [])
+  next-ordered r = subst Ordered (sym grown) (ordered-take (suc (t .lines)) L r)
+
+  module _ (u : Table) (q : Fits 128 u) (d : linesOf u ≡ linesOf t ++ line f w ∷ []) where
+    pub next-lines : u .lines ≡ suc (t .lines)
+    next-lines = sym (length-lines q) ∙ ap length (d ∙ grown) ∙ length-take-le (suc (t .lines)) L b
+
+    pub next-held : linesOf u ≡ take (u .lines) L
+    next-held = d ∙ grown ∙ ap (λ (k : ℕ). take k L) (sym next-lines)
