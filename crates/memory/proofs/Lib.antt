@@ -7,3 +7,4 @@ pub mod Slices
 pub mod Elements
 pub mod Forms
 pub mod Openings
+pub mod Closings

@@ -1,5 +1,6 @@
 // What callers lend, and the working form of what it holds: the head, the term area and the line table, whether they are well
 // formed, and how lines are read from them and written back.
+pub mod close;
 pub mod entries;
 pub mod form;
 pub mod open;
