@@ -6,9 +6,9 @@ use native.Mathlib.Nat.{le-of-suc-le-suc, not-suc-le-zero, sub-self, sub-zero}
 use native.Mathlib.Numerals.{add-one}
 use native.Mathlib.Omega.{arith}
 use lib.Dec.{T, leb}
-use lib.IntN.{ℤ, pos}
+use lib.IntN.{ℤ}
 use lib.ListN.{length, getD, set, take, drop, replicate, length-append, length-drop, length-replicate, length-take, take-append-drop, replicate-append-replicate, drop-of-length-le}
-use lib.Seq.{append-snoc, drop-length, slice, take-at, drop-at, take-take, take-suc, take-all, drop-drop, set-at, drop-append-le, length-take-le, length-slice}
+use lib.Seq.{append-snoc, drop-length, slice, take-at, drop-at, take-take, take-suc, drop-drop, set-at, drop-append-le, length-take-le, length-slice}
 use Rattle.run.specs.Boolean.{right}
 use Rattle.configuration.specs.Configuration.{Line, line}
 use Rattle.configuration.specs.Memory.{zeros}
@@ -17,7 +17,7 @@ use Rattle.table.specs.Rows.{Table, rowOf, linesAt, linesOf, Each, Entered, Fit
 use Rattle.memory.specs.declared.Entry.{Entry}
 use Rattle.memory.specs.Memory.{Memory, termsOf, entriesOf, unused, imageOf}
 use Rattle.memory.specs.MemoryLaws.{length-terms, length-entries, row-short, first-cleared, rest-cleared}
-use Rattle.memory.specs.Layout.{rowCleared, cleared, ClearedFrom}
+use Rattle.memory.specs.Layout.{rowCleared, cleared}
 
 -- ---- rows that are cleared
 pub every-row : (i : ℕ) (ts : List ℕ) (t : List Entry) → T (cleared ts t) → i < length t → T (rowCleared (drop (64 * i) ts) (getD t i unused))
@@ -125,9 +125,6 @@ module _ (N : List Line) (sh : Short N) (i : ℕ) (l : List ℕ) (b : i < length
   -- the rows that are not written yet are as they were
   pub rows-left : drop (64 * i) m ≡ drop (64 * i) l
   rows-left = drop-at (termsOf M) (drop (64 * i) l) (64 * i) terms-long
-
-  pub terms-room : 64 * i + length (drop (64 * i) l) ≡ length m
-  terms-room = sym (length-append (termsOf M) (drop (64 * i) l) ∙ ap (λ (k : ℕ). k + length (drop (64 * i) l)) terms-long)
 
   module _ (f : List ℕ) (w : ℤ) (d : Line) (x : getD N i d ≡ line f w) where
     more : take (i + 1) N ≡ M ++ line f w ∷ []

@@ -1,6 +1,6 @@
 -- The steps of the test 'well formed', over plain lists: a line, the rows of a term area, the entries behind the lines, the lines one by one, and the parts of the whole test.
 use mathlib.Core.Path.{_≡_, refl, sym, ap, _∙_}
-use mathlib.Core.Bool.{Bool, true, false, not, _&&_, true≢false}
+use mathlib.Core.Bool.{Bool, true, false, _&&_, true≢false}
 use mathlib.Core.List.{List, [], _∷_}
 use Prim.Native.Nat.{ℕ, zero, suc, _+_, _-_, _*_, _≤_, _<_}
 use native.Mathlib.Nat.{le-of-suc-le-suc, not-suc-le-zero}
@@ -11,7 +11,7 @@ use lib.IntN.{ℤ, pos}
 use lib.ListN.{length, getD, take, drop, length-drop, drop-of-length-le}
 use lib.Seq.{slice, take-add, drop-at, drop-cons, drop-drop, length-take-le}
 use borrow.Author.Tests.{lt-leb, le-leb}
-use Rattle.run.specs.Boolean.{is-true, is-false, left, right, both, bool-ext}
+use Rattle.run.specs.Boolean.{is-false, left, right, both, bool-ext}
 use Rattle.polynomial.specs.Polynomial.{orderOf}
 use Rattle.configuration.specs.Weight.{inRange}
 use Rattle.configuration.specs.Configuration.{Line, line, byOrder, lineFits, linesFit, weightsFit}

@@ -1,13 +1,12 @@
 -- A table that holds the first lines of a configuration, and the next one put behind them.
-use mathlib.Core.Path.{_≡_, refl, sym, ap, subst, _∙_}
+use mathlib.Core.Path.{_≡_, sym, ap, subst, _∙_}
 use mathlib.Core.List.{List, [], _∷_, _++_}
-use Prim.Native.Nat.{ℕ, zero, suc, _*_, _≤_, _<_}
+use Prim.Native.Nat.{ℕ, zero, suc, _<_}
 use native.Mathlib.Omega.{arith}
 use lib.IntN.{ℤ, pos}
 use lib.ListN.{length, getD, take}
-use lib.Seq.{take-suc, take-all, length-take-le}
+use lib.Seq.{take-suc, length-take-le}
 use Rattle.configuration.specs.Configuration.{Line, line, Behind, Ordered}
-use Rattle.configuration.specs.ConfigurationLaws.{fit-ordered}
 use Rattle.table.specs.Rows.{Table, linesOf, Fits, inTurn}
 use Rattle.table.specs.RowsLaws.{length-lines, fresh-fits}
 

@@ -79,7 +79,7 @@ abbrev pub sameMemory : Memory → Memory → Bool
 sameMemory m k =
     eqb (m .variables) (k .variables) && (eqb (m .lines) (k .lines) && (alike eqb (m .terms) (k .terms) && alike sameEntry (m .table) (k .table)))
 
--- well formed: the image of its own configuration, which can be held
+-- well formed: the memory is the image of its own configuration, which can be held, and has as many lines as its head says
 abbrev pub wellFormed : Memory → Bool
 wellFormed m = holds (m .variables) (standingOf m) && sameMemory m (imageOf (m .variables) (standingOf m))
 

@@ -1,7 +1,7 @@
 -- A configuration and its memory: reading gives back what was laid out, a well-formed memory is the image of its own configuration, and the parts of the test 'well formed'
 -- as code makes them.
 use mathlib.Core.Path.{_≡_, refl, sym, ap, ap₂, subst, _∙_}
-use mathlib.Core.Bool.{Bool, true, false, _&&_}
+use mathlib.Core.Bool.{Bool, _&&_}
 use mathlib.Core.List.{List, [], _∷_, _++_, append-assoc}
 use Prim.Native.Nat.{ℕ, zero, suc, _+_, _-_, _*_, _≤_}
 use native.Mathlib.Nat.{le-of-suc-le-suc, not-suc-le-zero, sub-zero, suc-sub-suc}
@@ -10,7 +10,7 @@ use lib.Dec.{T, eqb, eqb→eq, eqb-refl, leb, leb→le, le→leb}
 use lib.IntN.{ℤ, pos, negsuc}
 use lib.ListN.{length, take, drop, replicate, length-append, length-drop, length-replicate, take-append-drop, replicate-append-replicate}
 use lib.Seq.{slice, take-at, drop-at, take-take, take-append-seam, drop-append-seam, length-take-le, length-slice}
-use Rattle.run.specs.Boolean.{left, right, both, eq→eqb}
+use Rattle.run.specs.Boolean.{left, right, both}
 use Rattle.configuration.specs.Weight.{isZero}
 use Rattle.configuration.specs.Configuration.{Line, line, linesFit, weightsFit}
 use Rattle.configuration.specs.Memory.{zeros}
@@ -181,6 +181,14 @@ cleared-lines (line f w ∷ L) x y s h =
 
 pub image-cleared : (n : ℕ) (L : List Line) → Short L → T (cleared (imageOf n L .terms) (imageOf n L .table))
 image-cleared n L s = cleared-lines L (replicate (64 * (128 - length L)) 0) (replicate (128 - length L) unused) s (cleared-none (128 - length L))
+
+-- the image of no lines, with which a filing begins
+pub none-image : (n : ℕ) → imageOf n [] ≡ record { variables = n; lines = 0; terms = replicate 8192 0; table = replicate 128 unused }
+unfolding termsOf entriesOf
+none-image n = refl
+
+pub none-cleared : T (cleared (replicate 8192 0) (replicate 128 unused))
+none-cleared = cleared-none 128
 
 unused-none : (n : ℕ) → T (allUnused (replicate n unused))
 unfolding allUnused

@@ -13,7 +13,8 @@ ghost use Rattle.table.specs.Rows.{tableAt, tableBefore, linesOf, Fits};
 ghost use Rattle.memory.specs.Memory.{memoryAfter, termsOf, entriesOf, unused, imageOf};
 ghost use Rattle.memory.specs.Layout.{rowCleared, cleared, ClearedFrom};
 
-// Sets every place of a term area to zero: with no entries it is the image of no lines. It is for the crates that file a problem.
+// Sets every place of a term area to zero: with no entries it is the image of no lines. It is for the crate
+// `checker`, whose filing begins with it.
 pub fn clear(terms: &mut [u32])
     ensures { λ _. ⌜ now (terms .exit) ≡ replicate (length (now (terms .entry))) 0 ⌝ }
 {
@@ -90,7 +91,7 @@ fn clear_rows(from: usize, before: [Entry; 128], terms: &mut [u32])
 }
 
 // Writes the lines of the working form back, in their order, into a term area in which every place that the given entries do not
-// count is zero, and answers their entries. It is for the crates whose operations work on lines.
+// count is zero, and answers their entries. Only places that the old lines used are cleared. It is for the crate `checker`.
 pub fn close(
     lines: usize,
     order: &[u64],

@@ -5,7 +5,7 @@ ghost use Prim.Native.Nat.{_<_};
 ghost use lib.ListN.{length, getD, set, replicate};
 ghost use Rattle.memory.specs.Memory.{unused};
 
-// A table in which no line is held.
+// A table in which no line is held: with a cleared term area it is the image of no lines.
 pub fn no_entries() -> [Entry; 128]
     ensures { λ r. ⌜ r ≡ replicate 128 unused ⌝ }
 {
@@ -15,7 +15,7 @@ pub fn no_entries() -> [Entry; 128]
     }; 128]
 }
 
-// The record of a line.
+// The record of a line. It is for this crate and `checker`, which have tested the length.
 pub fn line_at(table: &[Entry], i: usize) -> Entry
     requires { ⌜ i < length (now table) ⌝ }
     ensures { λ r. ⌜ r ≡ getD (now (table .entry)) i unused ⌝ }
@@ -23,7 +23,7 @@ pub fn line_at(table: &[Entry], i: usize) -> Entry
     table[i]
 }
 
-// Replaces the record of a line.
+// Replaces the record of a line. It is for this crate and `checker`.
 pub fn set_line(table: &mut [Entry], i: usize, entry: Entry)
     requires { ⌜ i < length (now table) ⌝ }
     ensures { λ _. ⌜ now (table .exit) ≡ set (now (table .entry)) i entry ⌝ }
@@ -31,7 +31,7 @@ pub fn set_line(table: &mut [Entry], i: usize, entry: Entry)
     table[i] = entry;
 }
 
-// Reads a table.
+// Reads a table. It is for the crate `checker`, which has tested the length.
 pub fn load(table: &[Entry]) -> [Entry; 128]
     requires { ⌜ length (now table) ≡ 128 ⌝ }
     ensures { λ r. ⌜ r ≡ now (table .entry) ⌝ }
@@ -45,7 +45,7 @@ pub fn load(table: &[Entry]) -> [Entry; 128]
     entries
 }
 
-// Writes a table.
+// Writes a table. It is for the crate `checker`.
 pub fn store(table: &mut [Entry], entries: [Entry; 128])
     requires { ⌜ length (now table) ≡ 128 ⌝ }
     ensures { λ _. ⌜ now (table .exit) ≡ entries ⌝ }

@@ -10,7 +10,7 @@ ghost use Rattle.table.specs.Rows.{tableAfter, linesOf, Fits, inTurn};
 ghost use Rattle.memory.specs.Memory.{memoryAt, memoryBefore, standingOf, wellFormed};
 
 // Reads the lines of a well-formed memory into a table that holds none yet, whose order is a fresh one; its areas may hold anything.
-// It is for the crates whose operations work on lines, and copies no more places than lines use.
+// It copies no more places than lines use. It is for the crate `checker`, which has tested the memory.
 pub fn open(
     head: Head,
     terms: &[u32],

@@ -1,5 +1,5 @@
 -- `clear` meets its contract: every place is cleared.
-use mathlib.Core.Path.{_≡_, _∙_}
+use mathlib.Core.Path.{_∙_}
 use denote.Ref.{now}
 use borrow.Author.Needs.{needs}
 use Rattle.memory.proofs.Closings.{clear-whole}

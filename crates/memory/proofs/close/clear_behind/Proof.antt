@@ -1,5 +1,5 @@
 -- `clear_behind` meets its contract: behind the terms that the row's line had all is zero already.
-use mathlib.Core.Path.{_≡_, _∙_}
+use mathlib.Core.Path.{_∙_}
 use Prim.Native.Nat.{_*_}
 use native.Mathlib.Omega.{arith}
 use lib.ListN.{drop}

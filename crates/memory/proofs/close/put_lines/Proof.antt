@@ -1,6 +1,6 @@
 -- `put_lines` meets its contract. The invariant: the first `i` lines are written, and the rows behind them as they were.
-use mathlib.Core.Path.{_≡_, refl, sym, ap, ap₂, subst, _∙_}
-use mathlib.Core.List.{List, [], _++_}
+use mathlib.Core.Path.{_≡_, sym, ap, ap₂, subst, _∙_}
+use mathlib.Core.List.{List, _++_}
 use Prim.Native.Nat.{ℕ, _+_, _-_, _*_, _≤_, _<_, zero-le}
 use native.Mathlib.Omega.{arith}
 use lib.Dec.{T}
@@ -17,7 +17,7 @@ use Rattle.memory.specs.declared.Entry.{Entry}
 use Rattle.memory.specs.Memory.{termsOf, entriesOf, unused}
 use Rattle.memory.specs.Layout.{rowCleared}
 use Rattle.memory.proofs.Openings.{none}
-use Rattle.memory.proofs.Closings.{no-terms, no-lines, fits-short, rows-left, terms-room, next-terms, next-entries}
+use Rattle.memory.proofs.Closings.{no-terms, no-lines, fits-short, rows-left, next-terms, next-entries}
 use Rattle.memory.proofs.close.put_lines.Statement.{statement}
 use Rattle.memory.proofs.close.put_lines.Tie as tie
 

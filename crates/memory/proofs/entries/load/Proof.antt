@@ -38,7 +38,7 @@ use Rattle.memory.proofs.Filling.{entry-at, fill, fill-none, fill-next,
 use Rattle.memory.proofs.Elements.{Entries, IsEntries, entries-length, entries-datum, values-in, values-set, entries-set, entry-in}
 use Rattle.memory.proofs.Locals.{Hold, bare, holds, envOf, locals, cell, var, sets, sets-last, forgets, leaves}
 use Rattle.memory.proofs.Slices.{tests-index, points-in, Turns, goes-on, goes-past, counts}
-use Rattle.memory.proofs.Walking.{R, entry-value, entry-datum, Upto}
+use Rattle.memory.proofs.Walking.{R, entry-datum, Upto}
 use Rattle.memory.proofs.entries.no_entries.Symbol.{name as #memory·entries·no-entries}
 use Rattle.memory.proofs.entries.line_at.Symbol.{name as #memory·entries·line-at}
 use Rattle.memory.proofs.entries.load.Key.{name as #memory·entries·load}

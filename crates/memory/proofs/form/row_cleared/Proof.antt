@@ -1,5 +1,5 @@
 -- `row_cleared` meets its contract: the places behind the terms are a part of the row.
-use mathlib.Core.Path.{_≡_, refl, sym, _∙_}
+use mathlib.Core.Path.{_∙_}
 use native.Mathlib.Omega.{arith}
 use denote.Ref.{now}
 use borrow.Author.Needs.{needs}

@@ -1,5 +1,5 @@
 -- `well_formed` meets its contract: a test that fails is a part of 'well formed', and the last is what is left of it.
-use mathlib.Core.Path.{_≡_, sym, _∙_}
+use mathlib.Core.Path.{sym, _∙_}
 use mathlib.Core.Bool.{true, true≢false}
 use native.Mathlib.Omega.{arith}
 use lib.Dec.{T}
@@ -7,7 +7,7 @@ use denote.Ref.{now}
 use borrow.Author.Needs.{needs}
 use borrow.Author.Tests.{not-true, not-false}
 use Rattle.run.specs.Boolean.{is-true, of-true}
-use Rattle.memory.specs.Layout.{cleared, allUnused}
+use Rattle.memory.specs.Layout.{cleared}
 use Rattle.memory.specs.Memory.{Memory, memoryOf}
 use Rattle.memory.proofs.Forms.{not-well, the-lines}
 use Rattle.memory.proofs.form.well_formed.Statement.{statement}

@@ -1,5 +1,4 @@
 -- `within_limit` meets its contract: both tests of a weight are one test of its distance from 0.
-use borrow.Author.Needs.{needs}
 use mathlib.Core.Path.{_≡_, sym}
 use mathlib.Core.Bool.{true, false}
 use lib.IntN.{negsuc}

@@ -3,7 +3,6 @@ use mathlib.Core.Path.{_≡_, refl, sym, ap₂, _∙_}
 use mathlib.Core.List.{List}
 use Prim.Native.Nat.{ℕ, suc, _-_, _*_, _≤_, _<_}
 use native.Mathlib.Omega.{arith}
-use lib.Dec.{T}
 use lib.IntN.{ℤ}
 use lib.ListN.{length, getD, take, drop, length-take}
 use lib.Seq.{take-all}
@@ -11,7 +10,7 @@ use mir.Syntax.{w64}
 use mir.Val.{toZ, ofZ}
 use denote.Ref.{now}
 use borrow.Author.Needs.{needs}
-use Rattle.configuration.specs.Configuration.{Line, line, Ordered}
+use Rattle.configuration.specs.Configuration.{Line, line}
 use Rattle.configuration.specs.ConfigurationLaws.{fit-ordered}
 use Rattle.configuration.proofs.Areas.{read-back}
 use Rattle.table.specs.Rows.{Table, linesOf, Fits}
