@@ -10,13 +10,13 @@ use lib.Dec.{T, eqb, eqb→eq, eqb-refl, leb, leb→le, le→leb}
 use lib.IntN.{ℤ, pos, negsuc}
 use lib.ListN.{length, take, drop, replicate, length-append, length-drop, length-replicate, take-append-drop, replicate-append-replicate}
 use lib.Seq.{slice, take-at, drop-at, take-take, take-append-seam, drop-append-seam, length-take-le, length-slice}
-use Rattle.run.specs.Boolean.{left, right, both}
+use Rattle.run.specs.Boolean.{left, right, both, eq→eqb}
 use Rattle.configuration.specs.Weight.{isZero}
 use Rattle.configuration.specs.Configuration.{Line, line, linesFit, weightsFit}
 use Rattle.configuration.specs.Memory.{zeros}
 use Rattle.configuration.specs.MemoryLaws.{Short, fits-short, zeros-replicate, replicate-zeros}
 use Rattle.memory.specs.declared.Entry.{Entry}
-use Rattle.memory.specs.Memory.{Memory, readLines, standingOf, termsOf, entriesOf, unused, imageOf, holds, alike, sameWeight, sameEntry, sameMemory, wellFormed}
+use Rattle.memory.specs.Memory.{Memory, readLines, standingOf, termsOf, entriesOf, unused, imageOf, sized, holds, alike, sameWeight, sameEntry, sameMemory, wellFormed}
 use Rattle.memory.specs.Layout.{rowCleared, cleared, isUnused, allUnused}
 
 -- ---- equality by a test
@@ -313,6 +313,11 @@ well-formed m h =
       fit = q .fit;
       weights = q .weights;
     }
+
+pub well-sized : (m : Memory) → T (wellFormed m) → T (sized m)
+well-sized m h =
+    let q : Formed m = well-formed m h in
+    both (eqb (length (m .terms)) 8192) (eqb (length (m .table)) 128) (eq→eqb (length (m .terms)) 8192 (q .terms-length)) (eq→eqb (length (m .table)) 128 (q .table-length))
 
 pub formed-well : (m : Memory) → Formed m → T (wellFormed m)
 formed-well m q =
