@@ -1,0 +1,107 @@
+-- Operands as they are lent; changes that are folded one by one into a table of four; and what a plan promises of it, and a replacement by it.
+use mathlib.Core.Path.{_≡_, refl, sym, ap, _∙_}
+use mathlib.Core.Logic.{_⊎_, inl, inr}
+use mathlib.Core.Bool.{Bool, true, cond}
+use mathlib.Core.List.{List, [], _∷_, _++_}
+use Prim.Native.Nat.{ℕ, _≤_, _<_, _^_}
+use native.Mathlib.Omega.{arith}
+use lib.Dec.{T, le→leb}
+use lib.IntN.{ℤ, _+ℤ_}
+use lib.ListN.{length, getD}
+use lib.Signed.{mag}
+use Rattle.polynomial.specs.Polynomial.{ZERO, ONE, sumOf, productOf}
+use Rattle.polynomial.proofs.Keys.{below-each}
+use Rattle.configuration.specs.Weight.{inRange}
+use Rattle.configuration.specs.Configuration.{Line, line, weight, add, addAll, negated, Ordered, isPolynomial}
+use Rattle.configuration.specs.ConfigurationLaws.{all-ordered, netted}
+use Rattle.configuration.specs.FormLaws.{polynomial-is}
+use Rattle.configuration.specs.Replacement.{Small, within}
+use Rattle.configuration.specs.ReplacementLaws.{mag-add, netted-weight, netted-small}
+use Rattle.configuration.proofs.Replacements.{all-snoc, small-snoc, add-short, all-short}
+use Rattle.calculus.specs.Calculus.{conclusions, changes, allShort}
+use Rattle.calculus.specs.CalculusLaws.{none-changed}
+use Rattle.calculus.specs.declared.Rule.{Rule}
+use Rattle.calculus.specs.declared.Rule.the-variants.{Sum, Prod}
+use Rattle.calculus.specs.declared.Objection.{Objection}
+use Rattle.calculus.proofs.Plans.{small-changes}
+use Rattle.table.specs.Rows.{Table, linesOf, capacityOf, Fits, Holds}
+use Rattle.table.specs.RowsLaws.{of-capacity, to-capacity}
+use Rattle.table.specs.Replacing.{Replacement, replacedOf, verdictNumber, after, replaced}
+use Rattle.table.specs.declared.Verdict.{Verdict}
+use Rattle.step.specs.Stepping.{Operand, HasPlan, objectionNumber, steppedOf}
+
+-- ---- an operand is a polynomial of 32 variables
+pub operand-is : (f : List ℕ) → Operand f → ((i : ℕ) → getD f i 0 < 2 ^ 32) → T (isPolynomial 32 f)
+operand-is f o b = polynomial-is 32 f (le→leb (length f) 64 (o .0)) (below-each f (λ i h. b i)) (o .1)
+
+-- ---- changes folded one by one
+-- a table of four has the changes C, none of them large
+pub record Folded (C : List Line) (t : Table) : Type 0 where
+  pub holds : Holds 4 (addAll C []) t
+  pub small : Small 42 C
+
+pub folded-none : {is ts : List ℕ} {ws : List ℤ} {cs : List ℕ}
+    → (let t : Table = record { lines = 0; order = is; terms = ts; weights = ws; counts = cs } in Fits 4 t → Folded [] t)
+unfolding addAll
+folded-none q = record { holds = (refl, q); small = tt }
+
+-- one change more, of f by w, is allowed, and is then in the table; the code has it as x and v
+module _ {C : List Line} {t : Table} (k : Folded C t) (l : length C < 4) {f x : List ℕ} {w v : ℤ} (ex : x ≡ f) (ev : v ≡ w) (q : mag w < 2 ^ 42) where
+  added : add x v (linesOf t) ≡ add f w (addAll C [])
+  added = rw (ex, ev, k .holds .0)
+
+  pub fold-asked : length f ≤ 64
+      → Fits (capacityOf t) t × (length x ≤ 64) × (mag (weight (linesOf t) x +ℤ v) < 2 ^ 63) × (length (add x v (linesOf t)) ≤ capacityOf t)
+  fold-asked s =
+      let m : mag (weight (linesOf t) x +ℤ v) < 2 ^ 63 =
+      rw (ex, ev, k .holds .0) (omega (arith, mag-add (weight (addAll C []) f) w, netted-weight C (omega arith) (k .small) f)) in (
+        of-capacity (k .holds .1),
+        rw ex s,
+        m,
+        omega (arith, ap length added, add-short f w (addAll C []) (all-ordered C [] tt), all-short C [] tt, k .holds .1 .counts-length),
+      )
+
+  pub fold-given : {u : Table} → Holds (capacityOf t) (add x v (linesOf t)) u → Folded (C ++ (line f w ∷ [])) u
+  fold-given h = record { holds = (h .0 ∙ added ∙ sym (all-snoc C [] f w), to-capacity (k .holds .1) (h .1)); small = small-snoc 42 C f w (k .small) q }
+
+-- ---- what a plan promises
+module _ (r : Rule) (f g : List ℕ) (w : ℤ) where
+  -- the changes by whether the results fit
+  abbrev chosen : Bool → List Line
+  chosen x = addAll (cond x (changes r f g w) []) []
+
+  pub made : (b : Bool) {t : Table} → allShort (conclusions r f g w) ≡ b → Folded (cond b (changes r f g w) []) t → HasPlan r f g w b t
+  made b d k = (sym d, (k .holds .0 ∙ ap chosen (sym d), k .holds .1))
+
+  pub made-lines : {b : Bool} {t : Table} → HasPlan r f g w b t → b ≡ true → linesOf t ≡ addAll (changes r f g w) []
+  made-lines m e = m .1 .0 ∙ ap chosen (sym (m .0) ∙ e)
+
+-- where f g or f (g + 1) has no term nothing changes
+no-terms : (l : List ℕ) → length l ≡ 0 → l ≡ ZERO
+no-terms [] e = refl
+no-terms (t ∷ l) e = let z : ⊥ = omega arith in absurd z
+
+pub made-none : (f g : List ℕ) (w : ℤ) {t : Table} → Folded [] t → T (isPolynomial 32 f) → T (isPolynomial 32 g) → allShort (conclusions Prod f g w) ≡ true
+    → (length (productOf f g) ≡ 0) ⊎ (length (productOf f (sumOf g ONE)) ≡ 0) → HasPlan Prod f g w true t
+unfolding addAll
+made-none f g w k hf hg d h = (sym d, (k .holds .0 ∙ rw d (sym (none-changed 32 f g w hf hg (go h))), k .holds .1))
+  where
+    go : (length (productOf f g) ≡ 0) ⊎ (length (productOf f (sumOf g ONE)) ≡ 0) → (productOf f g ≡ ZERO) ⊎ (productOf f (sumOf g ONE) ≡ ZERO)
+    go (inl e) = inl (no-terms (productOf f g) e)
+    go (inr e) = inr (no-terms (productOf f (sumOf g ONE)) e)
+
+-- ---- what a replacement by the table asks for, and leaves
+few-changes : (r : Rule) (f g : List ℕ) (w : ℤ) → length (changes r f g w) ≤ 4
+unfolding negated
+few-changes Sum f g w = omega arith
+few-changes Prod f g w = omega arith
+
+pub small-folded : (r : Rule) (f g : List ℕ) (w : ℤ) → T (inRange w) → Small 45 (addAll (changes r f g w) [])
+small-folded r f g w h = netted-small (changes r f g w) (few-changes r f g w) (small-changes r f g w h)
+
+-- changes that were folded among themselves first are the rule's
+pub changed-is : (C L M : List Line) (v : Verdict) (o : Objection) → Ordered L → replacedOf v M ≡ replaced (addAll C []) L → objectionNumber o ≡ verdictNumber v
+    → steppedOf o M ≡ after L (within (addAll C L))
+unfolding replaced
+changed-is C L M v o r e h =
+    ap (λ (n : ℕ). let a : Replacement = record { number = n; lines = M } in a) h ∙ e ∙ ap (λ (N : List Line). after L (within N)) (netted C L r)

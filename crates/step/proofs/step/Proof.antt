@@ -1,0 +1,124 @@
+-- `step` meets its contract: what is found against the step stands in front of the rest of it.
+use mathlib.Core.Path.{_≡_, sym, ap, _∙_}
+use lib.Dec.{T}
+use denote.Ref.{now}
+use mir.Facts.{toZ-ofZ}
+use borrow.Author.Needs.{needs}
+use Rattle.configuration.specs.Weight.{inRange}
+use Rattle.configuration.specs.Replacement.{Step}
+use Rattle.calculus.specs.Calculus.{changed, step, objected}
+use Rattle.calculus.specs.declared.Objection.{Objection}
+use Rattle.calculus.proofs.Steps.{Judged, objected-is, in-range}
+use Rattle.table.specs.Rows.{Table, linesOf}
+use Rattle.table.specs.Replacing.{after}
+use Rattle.step.specs.Stepping.{steppedOf}
+use Rattle.step.proofs.step.Statement.{statement}
+use Rattle.step.proofs.step.Tie as tie
+
+abbrev table : tie.Start → Table
+table s = let a = s .args in record { lines = a .lines; order = now (a .order); terms = now (a .terms); weights = now (a .weights); counts = now (a .counts) }
+
+-- what follows the tests of the mode
+abbrev rest-of : tie.Start → Step
+rest-of s = let a = s .args in changed (a .rule) (now (a .f)) (now (a .g)) (a .amount) (linesOf (table s))
+
+-- ---- what is found against the step
+abbrev begun : tie.After-object → tie.Start
+begun c = c .before .before .before .before .before .before .before .before .before .before
+
+judged : (c : tie.After-object)
+    → (let a = begun c .args in Judged (a .rule) (a .mode) (now (a .f)) (now (a .g)) (a .amount) (linesOf (table (begun c))) (c .object .result))
+judged c = rw (toZ-ofZ (begun c .fits .amount)) at (c .object .ensures)
+
+found : (c : tie.After-object)
+    → (let s = begun c in
+    let a = s .args in
+    let L = linesOf (table s) in
+    after L (objected (c .object .result) (rest-of s)) ≡ after L (step (a .rule) (a .mode) (now (a .f)) (now (a .g)) (a .amount) L))
+found c =
+    let s = begun c in
+    let a = s .args in
+    ap (after (linesOf (table s))) (objected-is (a .rule) (a .mode) (now (a .f)) (now (a .g)) (a .amount) (linesOf (table s)) (c .object .result) (judged c))
+
+-- by what was found
+by-objection : (c : tie.After-object) {o : Objection} → c .object .result ≡ o
+    → (let s = begun c in let L = linesOf (table s) in after L (objected o (rest-of s)) ≡ after L (objected (c .object .result) (rest-of s)))
+by-objection c e = let s = begun c in ap (λ (o : Objection). after (linesOf (table s)) (objected o (rest-of s))) (sym e)
+
+amount-fits : (c : tie.After-enum-told) → T (inRange (begun (c .before .before) .args .amount))
+amount-fits c =
+    let k = c .before .before in
+    let s = begun k in
+    let a = s .args in
+    in-range (a .rule) (a .mode) (now (a .f)) (now (a .g)) (a .amount) (linesOf (table s)) (k .object .result) (judged k) (c .enum-told .given .1)
+
+object-requires : tie.Need-object-requires
+object-requires c κs = c .before .before .before .before .before .before .before .before .before .pre .0
+
+enum-known-objection : tie.Need-enum-known-objection
+enum-known-objection c = search needs
+
+same-length : tie.Need-same-length
+same-length c = search needs
+
+same-length-2 : tie.Need-same-length-2
+same-length-2 c = search needs
+
+same-length-3 : tie.Need-same-length-3
+same-length-3 c = search needs
+
+same-length-4 : tie.Need-same-length-4
+same-length-4 c = search needs
+
+returns : tie.Need-returns
+returns c =
+    let k = c .before .before .before in
+    (by-objection k (c .before .objection .given .1) ∙ found k, begun k .pre .0)
+
+enum-told : tie.Need-enum-told
+enum-told c = search needs
+
+change-requires : tie.Need-change-requires
+change-requires c κs =
+    let k = c .before .before .before .before in
+    let s = begun (k .before .before) in
+    (s .pre .0, s .pre .1, s .pre .2, s .pre .3, rw (toZ-ofZ (s .fits .amount)) (amount-fits k))
+
+same-length-5 : tie.Need-same-length-5
+same-length-5 c = search needs
+
+same-length-6 : tie.Need-same-length-6
+same-length-6 c = search needs
+
+same-length-7 : tie.Need-same-length-7
+same-length-7 c = search needs
+
+same-length-8 : tie.Need-same-length-8
+same-length-8 c = search needs
+
+returns-2 : tie.Need-returns-2
+returns-2 c =
+    let r = c .before .before .before .before .before .before .before in
+    let k = r .before .before .before .before .before in
+    let s = begun (k .before .before) in
+    let e = rw (toZ-ofZ (s .fits .amount)) at (r .change .ensures .0) in
+    (e ∙ by-objection (k .before .before) (k .enum-told .given .1) ∙ found (k .before .before), r .change .ensures .1)
+
+pub step-spec : {M : Type 1} → statement M
+step-spec =
+    tie.close
+    (tie.spec
+    object-requires
+    enum-known-objection
+    same-length
+    same-length-2
+    same-length-3
+    same-length-4
+    returns
+    enum-told
+    change-requires
+    same-length-5
+    same-length-6
+    same-length-7
+    same-length-8
+    returns-2)

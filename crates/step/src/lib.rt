@@ -1,0 +1,251 @@
+// One step on the lines of a table: the tests of the mode, and the changes of a rule, all or nothing. Callers of `step` have made
+// the table, and tested the polynomials.
+mod plan;
+
+use calculus::Mode;
+use calculus::Objection;
+use calculus::Rule;
+use plan::plan_of;
+use polynomial::Ordering;
+use polynomial::Polynomial;
+use polynomial::order::compare;
+use refusal::Reason;
+use table::Verdict;
+use table::lines::none_negative;
+use table::lines::weight_of;
+use table::replace::replace;
+ghost use mathlib.Core.Path.{_≡_};
+ghost use mathlib.Core.Bool.{true, cond};
+ghost use lib.Dec.{T};
+ghost use lib.Signed.{leZ};
+ghost use Rattle.configuration.specs.Weight.{inRange};
+ghost use Rattle.configuration.specs.Configuration.{some, weight, weightsFit};
+ghost use Rattle.configuration.specs.Replacement.{Step};
+ghost use Rattle.calculus.specs.Calculus.{amountFits, premises, there, passing, modeTests, objected, changed, step as stepOf};
+ghost use Rattle.table.specs.Rows.{tableAt, tableBefore, tableAfter, linesOf, Fits};
+ghost use Rattle.table.specs.Replacing.{verdictNumber, after};
+ghost use Rattle.step.specs.Stepping.{Operand, objectionNumber, steppedOf};
+
+// How many lines a step leaves, and what was found against it: nothing, if it was taken.
+pub struct Stepped {
+    pub lines: usize,
+    pub objection: Objection,
+}
+
+// Whether an amount is in the mode's range.
+fn amount_fits(mode: Mode, amount: i64) -> bool
+    ensures { λ r. ⌜ r ≡ amountFits mode amount ⌝ }
+{
+    if 1000000000000 < amount {
+        return false;
+    }
+    match mode {
+        Mode::Plain => 1 <= amount,
+        Mode::Signed => {
+            if amount < -1000000000000 {
+                return false;
+            }
+            amount != 0
+        }
+    }
+}
+
+// Whether as much as is asked of a polynomial is held. The polynomial 0 is never asked for.
+fn is_held(
+    lines: usize,
+    order: &[u64],
+    terms: &[u32],
+    weights: &[i64],
+    counts: &[u32],
+    f: &[u32],
+    asked: i64,
+) -> bool
+    requires { ⌜ Fits 128 (tableAt lines order terms weights counts) ⌝ }
+    ensures { λ r. let L = linesOf (tableBefore lines order terms weights counts) in let p = now (f .entry) in
+        ⌜ r ≡ cond (some p) (leZ asked (weight L p)) true ⌝ }
+{
+    if f.len() == Polynomial::ZERO.count {
+        return true;
+    }
+    asked <= weight_of(lines, order, terms, weights, counts, f)
+}
+
+// Whether the weight that a rule takes away is there. SUM of a polynomial with itself asks for twice the amount.
+fn is_there(
+    lines: usize,
+    order: &[u64],
+    terms: &[u32],
+    weights: &[i64],
+    counts: &[u32],
+    rule: Rule,
+    f: &[u32],
+    g: &[u32],
+    amount: i64,
+) -> bool
+    requires { ⌜ Fits 128 (tableAt lines order terms weights counts) × T (inRange amount) ⌝ }
+    ensures { λ r. let L = linesOf (tableBefore lines order terms weights counts) in
+        ⌜ r ≡ there L (premises rule (now (f .entry)) (now (g .entry)) amount) ⌝ }
+{
+    match rule {
+        Rule::Prod => is_held(lines, order, terms, weights, counts, f, amount),
+        Rule::Sum => {
+            let side = compare(f, g);
+            match side {
+                Ordering::Same => {
+                    let twice = amount + amount;
+                    is_held(lines, order, terms, weights, counts, f, twice)
+                }
+                _ => {
+                    if !is_held(lines, order, terms, weights, counts, f, amount) {
+                        return false;
+                    }
+                    is_held(lines, order, terms, weights, counts, g, amount)
+                }
+            }
+        }
+    }
+}
+
+// The mode's tests: a negative line, the amount's range, and the weight that is taken away, in that order.
+fn object(
+    lines: usize,
+    order: &[u64],
+    terms: &[u32],
+    weights: &[i64],
+    counts: &[u32],
+    rule: Rule,
+    mode: Mode,
+    f: &[u32],
+    g: &[u32],
+    amount: i64,
+) -> Objection
+    requires { ⌜ Fits 128 (tableAt lines order terms weights counts) ⌝ }
+    ensures { λ r. let L = linesOf (tableBefore lines order terms weights counts) in
+        ⌜ ((s : Step) → objected r s ≡ passing (modeTests rule mode (now (f .entry)) (now (g .entry)) amount L) s) ⌝ }
+{
+    if let Mode::Plain = mode {
+        if !none_negative(lines, order, weights) {
+            return Objection::Found(Reason::NegativeLine);
+        }
+    }
+    if !amount_fits(mode, amount) {
+        return Objection::Found(Reason::OutOfRange);
+    }
+    if let Mode::Plain = mode {
+        if !is_there(lines, order, terms, weights, counts, rule, f, g, amount) {
+            return Objection::Found(Reason::WeightMissing);
+        }
+    }
+    Objection::Nothing
+}
+
+// The objection that a replacement's verdict is.
+fn objection_of(verdict: Verdict) -> Objection
+    ensures { λ r. ⌜ objectionNumber r ≡ verdictNumber verdict ⌝ }
+{
+    match verdict {
+        Verdict::Done => Objection::Nothing,
+        Verdict::TooManyLines => Objection::Found(Reason::TooManyLines),
+        Verdict::WeightTooLarge => Objection::Found(Reason::WeightTooLarge),
+    }
+}
+
+// Makes the changes of a rule, if they fit. It is for `step`, which has made the mode's tests.
+fn change(
+    lines: usize,
+    order: &mut [u64],
+    terms: &mut [u32],
+    weights: &mut [i64],
+    counts: &mut [u32],
+    rule: Rule,
+    f: &[u32],
+    g: &[u32],
+    amount: i64,
+) -> Stepped
+    requires { let t = tableAt lines order terms weights counts in
+        ⌜ Fits 128 t × T (weightsFit (linesOf t)) × Operand (now f) × Operand (now g) × T (inRange amount) ⌝ }
+    ensures lines { λ r. let L = linesOf (tableBefore lines order terms weights counts) in
+        ⌜ steppedOf (r .objection) (linesOf (tableAfter (r .lines) order terms weights counts))
+        ≡ after L (changed rule (now (f .entry)) (now (g .entry)) amount L) ⌝ }
+    ensures fits { λ r. ⌜ Fits 128 (tableAfter (r .lines) order terms weights counts) ⌝ }
+{
+    let mut new_order = [0u64, 1, 2, 3];
+    let mut new_terms = [0u32; 256];
+    let mut new_weights = [0i64; 4];
+    let mut new_counts = [0u32; 4];
+    let plan = plan_of(
+        rule,
+        f,
+        g,
+        amount,
+        &mut new_order,
+        &mut new_terms,
+        &mut new_weights,
+        &mut new_counts,
+    );
+    if !plan.fits {
+        return Stepped {
+            lines,
+            objection: Objection::Found(Reason::TooManyTerms),
+        };
+    }
+    let done = replace(
+        lines,
+        order,
+        terms,
+        weights,
+        counts,
+        plan.lines,
+        &new_order,
+        &new_terms,
+        &new_weights,
+        &new_counts,
+    );
+    let verdict = done.verdict;
+    let objection = objection_of(verdict);
+    Stepped {
+        lines: done.lines,
+        objection,
+    }
+}
+
+// Takes a step on the lines of a table, or refuses it and changes nothing.
+pub fn step(
+    lines: usize,
+    order: &mut [u64],
+    terms: &mut [u32],
+    weights: &mut [i64],
+    counts: &mut [u32],
+    rule: Rule,
+    mode: Mode,
+    f: &[u32],
+    g: &[u32],
+    amount: i64,
+) -> Stepped
+    requires { let t = tableAt lines order terms weights counts in
+        ⌜ Fits 128 t × T (weightsFit (linesOf t)) × Operand (now f) × Operand (now g) ⌝ }
+    ensures lines { λ r. let L = linesOf (tableBefore lines order terms weights counts) in
+        ⌜ steppedOf (r .objection) (linesOf (tableAfter (r .lines) order terms weights counts))
+        ≡ after L (stepOf rule mode (now (f .entry)) (now (g .entry)) amount L) ⌝ }
+    ensures fits { λ r. ⌜ Fits 128 (tableAfter (r .lines) order terms weights counts) ⌝ }
+{
+    let objection = object(
+        lines,
+        order,
+        terms,
+        weights,
+        counts,
+        rule,
+        mode,
+        f,
+        g,
+        amount,
+    );
+    if let Objection::Found(reason) = objection {
+        return Stepped {
+            lines,
+            objection: Objection::Found(reason),
+        };
+    }
+    change(lines, order, terms, weights, counts, rule, f, g, amount)
+}

@@ -1,0 +1,127 @@
+// What a rule takes away and gives, folded in a table of four lines before the configuration is touched. It is for `change` of
+// this crate alone, which lends an empty table once the amount and the operands are tested.
+use calculus::Rule;
+use polynomial::Polynomial;
+use table::lines::fold_in;
+ghost use lib.Dec.{T};
+ghost use Rattle.configuration.specs.Weight.{inRange};
+ghost use Rattle.calculus.specs.declared.Rule.the-variants.{Sum, Prod};
+ghost use Rattle.table.specs.Rows.{tableAt, tableAfter, Fits};
+ghost use Rattle.step.specs.Stepping.{Operand, HasPlan};
+
+// How many lines the table has that has the changes of a rule; where one of its results has more than 64 terms, that they do
+// not fit.
+pub struct Plan {
+    pub fits: bool,
+    pub lines: usize,
+}
+
+// SUM: f and g lose the amount each, f + g gains it, f g gains it twice.
+fn plan_sum(
+    f: &[u32],
+    g: &[u32],
+    amount: i64,
+    order: &mut [u64],
+    terms: &mut [u32],
+    weights: &mut [i64],
+    counts: &mut [u32],
+) -> Plan
+    requires { ⌜ Operand (now f) × Operand (now g) × T (inRange amount) × Fits 4 (tableAt 0 order terms weights counts) ⌝ }
+    ensures { λ r. ⌜ HasPlan Sum (now (f .entry)) (now (g .entry)) amount (r .fits) (tableAfter (r .lines) order terms weights counts) ⌝ }
+{
+    let mut sum = [0u32; 64];
+    let m = Polynomial::sum(f, g, &mut sum);
+    if 64 < m {
+        return Plan {
+            fits: false,
+            lines: 0,
+        };
+    }
+    let mut product = [0u32; 64];
+    let n = Polynomial::product(f, g, &mut product);
+    if 64 < n {
+        return Plan {
+            fits: false,
+            lines: 0,
+        };
+    }
+    let lost = -amount;
+    let one = fold_in(0, order, terms, weights, counts, f, lost);
+    let two = fold_in(one, order, terms, weights, counts, g, lost);
+    let s = &sum[..m];
+    let three = fold_in(two, order, terms, weights, counts, s, amount);
+    let p = &product[..n];
+    let twice = amount + amount;
+    let lines = fold_in(three, order, terms, weights, counts, p, twice);
+    Plan { fits: true, lines }
+}
+
+// PROD: f loses the amount, f g gains it, f (g + 1) gains it. The last is f g + f, since g + 1 may have 65 terms.
+fn plan_prod(
+    f: &[u32],
+    g: &[u32],
+    amount: i64,
+    order: &mut [u64],
+    terms: &mut [u32],
+    weights: &mut [i64],
+    counts: &mut [u32],
+) -> Plan
+    requires { ⌜ Operand (now f) × Operand (now g) × T (inRange amount) × Fits 4 (tableAt 0 order terms weights counts) ⌝ }
+    ensures { λ r. ⌜ HasPlan Prod (now (f .entry)) (now (g .entry)) amount (r .fits) (tableAfter (r .lines) order terms weights counts) ⌝ }
+{
+    let mut product = [0u32; 64];
+    let n = Polynomial::product(f, g, &mut product);
+    if 64 < n {
+        return Plan {
+            fits: false,
+            lines: 0,
+        };
+    }
+    let p = &product[..n];
+    let mut rest = [0u32; 64];
+    let m = Polynomial::sum(p, f, &mut rest);
+    if 64 < m {
+        return Plan {
+            fits: false,
+            lines: 0,
+        };
+    }
+    // Where f g or f (g + 1) is 0 the other is f, which gets back what it loses: nothing changes.
+    if n == Polynomial::ZERO.count {
+        return Plan {
+            fits: true,
+            lines: 0,
+        };
+    }
+    if m == Polynomial::ZERO.count {
+        return Plan {
+            fits: true,
+            lines: 0,
+        };
+    }
+    let one = fold_in(0, order, terms, weights, counts, f, -amount);
+    let two = fold_in(one, order, terms, weights, counts, p, amount);
+    let q = &rest[..m];
+    let lines = fold_in(two, order, terms, weights, counts, q, amount);
+    Plan { fits: true, lines }
+}
+
+// The plan of a rule. It is for `change` of this crate.
+pub fn plan_of(
+    rule: Rule,
+    f: &[u32],
+    g: &[u32],
+    amount: i64,
+    order: &mut [u64],
+    terms: &mut [u32],
+    weights: &mut [i64],
+    counts: &mut [u32],
+) -> Plan
+    requires { ⌜ Operand (now f) × Operand (now g) × T (inRange amount) × Fits 4 (tableAt 0 order terms weights counts) ⌝ }
+    ensures { λ r. ⌜ HasPlan rule (now (f .entry)) (now (g .entry)) amount (r .fits) (tableAfter (r .lines) order terms weights counts) ⌝ }
+{
+    match rule {
+        Rule::Sum => plan_sum(f, g, amount, order, terms, weights, counts),
+        Rule::Prod => plan_prod(f, g, amount, order, terms, weights, counts),
+    }
+}
