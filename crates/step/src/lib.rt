@@ -209,7 +209,7 @@ fn change(
     }
 }
 
-// Takes a step on the lines of a table, or refuses it and changes nothing.
+// Takes a step on the lines of a table, or refuses it and changes nothing. It is for the crates that read derivations or lend memory.
 pub fn step(
     lines: usize,
     order: &mut [u64],
