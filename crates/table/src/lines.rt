@@ -131,7 +131,7 @@ pub fn look_up(
     Known { at, weight: 0 }
 }
 
-// The weight of a polynomial, not 0. It is for the crates `calculus` and `derivation`.
+// The weight of a polynomial, not 0. It is for the crate `step`.
 pub fn weight_of(
     lines: usize,
     order: &[u64],
@@ -227,7 +227,7 @@ pub fn fold_at(
 }
 
 // Folds a weighted polynomial in: an equal polynomial's weight is added up, a weight or polynomial 0 vanishes. It is for the
-// crate `calculus`.
+// crate `step`.
 pub fn fold_in(
     lines: usize,
     order: &mut [u64],

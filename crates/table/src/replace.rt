@@ -248,7 +248,7 @@ fn fold_table(
 }
 
 // Replaces weighted polynomials in a table: the lines of a table of four are added, and the limits judged on the outcome alone. A
-// refusal changes nothing. It is for the crate `calculus`, which tests the polynomials first.
+// refusal changes nothing. It is for the crate `step`, which asks for polynomials.
 pub fn replace(
     lines: usize,
     order: &mut [u64],
@@ -299,8 +299,8 @@ pub fn replace(
     }
 }
 
-// Adds one weighted polynomial to a table, within the limits. A refusal changes nothing. It is for the crate `problem`, which has
-// tested the polynomial and the weight.
+// Adds one weighted polynomial to a table, within the limits. A refusal changes nothing. It is for the filing of a problem, which
+// is to test the polynomial and the weight first; nothing calls it yet.
 pub fn add(
     lines: usize,
     order: &mut [u64],
