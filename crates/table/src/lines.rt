@@ -298,7 +298,7 @@ fn is_negative(weight: i64) -> bool
 }
 
 // Whether no line is negative: the bits of the weights are joined, without a branch, and the sign is that of any negative one. It
-// is for the crates `calculus` and `derivation`.
+// is for the crate `step`.
 pub fn none_negative(lines: usize, order: &[u64], weights: &[i64]) -> bool
     requires { ⌜ (lines ≤ length (now order)) × Once (length (now weights)) (now order) ⌝ }
     ensures { λ r. ⌜ ((terms counts : List ℕ) → r ≡ not (anyNegative (linesOf
