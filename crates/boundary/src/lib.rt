@@ -1,12 +1,11 @@
 // The functions that programs in other languages call, on numbers and slices of bytes alone: the static library defines each under
 // its plain name. A slice passes as a pointer and then a length.
 use listing::text::put_bytes;
-use report::Report;
 use report::check_files;
 use report::code_file;
 use report::held;
 ghost use mathlib.Core.Path.{_≡_};
-ghost use Rattle.boundary.specs.Boundary.{checkInto, codeInto};
+ghost use Rattle.report.specs.Report.{checkInto, codeInto};
 
 // All that the program `check_derivation` prints of these files, at the front of the area, and its length; 0 where the area is
 // shorter than 2,179,648 bytes, which hold every report.
@@ -14,11 +13,7 @@ ghost use Rattle.boundary.specs.Boundary.{checkInto, codeInto};
 pub extern "C" fn ittavluna_check(problem: &[u8], steps: &[u8], out: &mut [u8]) -> usize
     ensures { λ r. ⌜ record { area = now (out .exit); size = r } ≡ checkInto (now (problem .entry)) (now (steps .entry)) (now (out .entry)) ⌝ }
 {
-    let report = check_files(problem, steps, out);
-    match report {
-        Report::Written(size) => size,
-        Report::TooShort => 0,
-    }
+    check_files(problem, steps, out)
 }
 
 // The line that the program `problem_code` prints of this file, at the front of the area, and its length; 0 where the area is shorter

@@ -6,24 +6,17 @@ use lib.Dec.{leb}
 use lib.IntN.{ℤ, pos, _+ℤ_}
 use lib.Signed.{leZ}
 use lib.ListN.{length}
+use Rattle.refusal.specs.Outcome.{Outcome, unless, Test, test, passing}
 use Rattle.run.specs.Run.{sorted}
 use Rattle.term.specs.Term.{before}
 use Rattle.polynomial.specs.Polynomial.{ONE, sumOf, productOf}
 use Rattle.configuration.specs.Weight.{limit, inRange, isZero}
 use Rattle.configuration.specs.Configuration.{Line, line, some, weight, addAll, negated, below, anyNegative}
-use Rattle.configuration.specs.Memory.{Memory, linesOf, imageOf, sized, wellFormed}
-use Rattle.configuration.specs.declared.Verdict.{Verdict}
-use Rattle.configuration.specs.declared.Verdict.the-variants.{Done, TooManyLines, WeightTooLarge}
-use Rattle.configuration.specs.Replacement.{Step, taken, refused, unless, within}
-use Rattle.refusal.specs.Refusal.{numberOf}
+use Rattle.configuration.specs.Limits.{within}
 use Rattle.calculus.specs.declared.Rule.{Rule}
 use Rattle.calculus.specs.declared.Rule.the-variants.{Sum, Prod}
 use Rattle.calculus.specs.declared.Mode.{Mode}
 use Rattle.calculus.specs.declared.Mode.the-variants.{Plain, Signed}
-use Rattle.calculus.specs.declared.Objection.{Objection}
-use Rattle.calculus.specs.declared.Objection.the-variants.{Nothing, Found}
-use Rattle.calculus.specs.declared.Answer.{Answer}
-use Rattle.calculus.specs.declared.Answer.the-variants.{Taken, Refused}
 
 -- ---- the rules: what a rule with its operands takes away, and what it gives
 -- SUM: "f and g lose w each, f + g gains w, fg gains 2w". PROD: "f loses w, fg gains w, f(g + 1) gains w".
@@ -60,15 +53,6 @@ unfoldable pub allShort : List Line → Bool
 allShort [] = true
 allShort (line f w ∷ L) = leb (length f) 64 && allShort L
 
--- ---- tests in document 01's order, each the number of its refusal and whether it is passed
-pub data Test : Type 0 where
-  test : ℕ → Bool → Test
-
--- refused for the first test that is not passed; else what follows
-abbrev pub passing : List Test → Step → Step
-passing [] s = s
-passing (test n b ∷ ts) s = unless b n (passing ts s)
-
 -- ---- one step of a configuration
 -- "12 plain mode and a negative line; 8; 9 plain mode and the weight not there"
 abbrev pub modeTests : Rule → Mode → List ℕ → List ℕ → ℤ → List Line → List Test
@@ -78,48 +62,13 @@ modeTests r m f g w L =
     test 9 (not (isPlain m) || there L (premises r f g w)) ∷ []
 
 -- "7 a result over 64 terms", then the limits, 10 and 11, of the lines with the changes
-abbrev pub changed : Rule → List ℕ → List ℕ → ℤ → List Line → Step
+abbrev pub changed : Rule → List ℕ → List ℕ → ℤ → List Line → Outcome (List Line)
 changed r f g w L = unless (allShort (conclusions r f g w)) 7 (within (addAll (changes r f g w) L))
 
-unfoldable pub step : Rule → Mode → List ℕ → List ℕ → ℤ → List Line → Step
+unfoldable pub step : Rule → Mode → List ℕ → List ℕ → ℤ → List Line → Outcome (List Line)
 step r m f g w L = passing (modeTests r m f g w L) (changed r f g w L)
 
--- what code finds against a step, in front of what follows if nothing is found
-abbrev pub objected : Objection → Step → Step
-objected Nothing s = s
-objected (Found reason) s = refused (numberOf reason)
-
--- ---- taking one step in lent memory: the answer, and what the memory then holds
-pub data Told : Type 0 where
-  done : Told
-  refusedAt : ℕ → ℕ → Told
-
--- the paper's words for an answer: the record that a refusal names, and its number
-abbrev pub toldOf : Answer → Told
-toldOf Taken = done
-toldOf (Refused k reason) = refusedAt k (numberOf reason)
-
--- the same for a replacement, which a step makes
-abbrev pub toldBy : Verdict → Told
-toldBy Done = done
-toldBy TooManyLines = refusedAt 0 10
-toldBy WeightTooLarge = refusedAt 0 11
-
-pub record Left : Type 0 where
-  pub memory : Memory
-  pub told : Told
-
-abbrev pub leftOf : Memory → Answer → Left
-leftOf m a = record { memory = m; told = toldOf a }
-
-abbrev pub leaves : Memory → Step → Left
-leaves m (taken L) = record { memory = imageOf 128 (m .variables) L; told = done }
-leaves m (refused n) = record { memory = m; told = refusedAt 0 n }
-
--- "1; 2 lent standing not well formed"
-abbrev pub memoryTests : Memory → List Test
-memoryTests m = test 1 (sized 128 m) ∷ test 2 (wellFormed m) ∷ []
-
+-- ---- a step that is taken directly: its operands are tested first
 -- "7 f or g longer than 64; 6; 16 terms of f or g not in strict written order"
 abbrev pub operandTests : ℕ → List ℕ → List ℕ → List Test
 operandTests n f g =
@@ -127,9 +76,5 @@ operandTests n f g =
     test 6 (below n f && below n g) ∷
     test 16 (sorted before f && sorted before g) ∷ []
 
--- a step that is taken directly: these tests, then the step
-unfoldable pub judged : Rule → Mode → List ℕ → List ℕ → ℤ → Memory → Step
-judged r d f g w m = passing (memoryTests m ++ operandTests (m .variables) f g) (step r d f g w (linesOf m))
-
-abbrev pub directStep : Rule → Mode → List ℕ → List ℕ → ℤ → Memory → Left
-directStep r d f g w m = leaves m (judged r d f g w m)
+unfoldable pub directStep : Rule → Mode → List ℕ → List ℕ → ℤ → ℕ → List Line → Outcome (List Line)
+directStep r d f g w n L = passing (operandTests n f g) (step r d f g w L)

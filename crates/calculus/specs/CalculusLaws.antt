@@ -1,5 +1,5 @@
--- Laws of the calculus: every rule keeps every cost, and so does a step, taken or refused; where PROD changes nothing; what a taken step passed and left;
--- that a configuration that is kept stays one; and the same of a step that is taken in lent memory.
+-- Laws of the calculus: every rule keeps every cost, and so does a step, taken or refused; where PROD changes nothing; what a step that is taken passed and left;
+-- that a configuration stays one; and the same of a step that is taken directly.
 use mathlib.Core.Path.{_≡_, refl, sym, ap, ap₂, _∙_}
 use mathlib.Core.Logic.{_⊎_, inl, inr}
 use mathlib.Core.Bool.{Bool, true, false, not, _&&_, _||_, cond, true≢false}
@@ -11,7 +11,12 @@ use lib.IntN.{ℤ, pos, negsuc, _+ℤ_, _-ℤ_, negℤ, subℕ, +ℤ-assoc, +ℤ
 use lib.Signed.{leZ}
 use lib.ListN.{length}
 use lib.Pow.{pow-pos}
-use Rattle.run.specs.Boolean.{is-true, of-true, both, cond-ind}
+use borrow.Author.Tests.{not-true}
+use Rattle.refusal.specs.Outcome.{Outcome, accepted, refused, after}
+use Rattle.refusal.specs.OutcomeLaws.{unless-taken}
+use Rattle.refusal.specs.Tests.{AllPassed}
+use Rattle.refusal.specs.TestsLaws.{passing-taken}
+use Rattle.run.specs.BooleanLaws.{is-true, of-true, both, cond-ind}
 use Rattle.run.specs.F2.{_⊕_}
 use Rattle.run.specs.Run.{sorted, Sorted}
 use Rattle.run.specs.RunLaws.{normal-id}
@@ -19,19 +24,17 @@ use Rattle.term.specs.Term.{before}
 use Rattle.polynomial.specs.Polynomial.{ZERO, ONE, eval, sumOf, productOf, Below}
 use Rattle.polynomial.specs.PolynomialLaws.{written, eval-sum, eval-product, eval-one, sum-ordered, product-ordered, sum-below, product-below, product-plus-one}
 use Rattle.configuration.specs.Weight.{isNegative, share}
-use Rattle.configuration.specs.Configuration.{Line, line, some, same, total, cost, weight, addAll, negated, Ordered, Every, below, isPolynomial, linesFit, weightsFit, anyNegative}
-use Rattle.configuration.specs.Sums.{share-neg, solve, o, v, _⊞_, ⊟}
+use Rattle.configuration.specs.Configuration.{Line, line, some, same, total, cost, weight, addAll, negated, InOrder, Every, below, isPolynomial, linesFit, weightsFit, isConfiguration, anyNegative}
+use Rattle.configuration.specs.SumLaws.{share-neg, solve, o, v, _⊞_, ⊟}
 use Rattle.configuration.specs.ConfigurationLaws.{same-is, same-none, total-negated, total-append, cost-all, weight-all, all-ordered, weight-behind, weight-head, all-fit}
-use Rattle.configuration.specs.FormLaws.{polynomial-below, polynomial-sorted, polynomial-is, sum-sign}
-use Rattle.configuration.specs.Memory.{Memory, linesOf, imageOf, sized, wellFormed}
-use Rattle.configuration.specs.Replacement.{Step, taken, refused, unless, within}
-use Rattle.configuration.specs.MemoryLaws.{well-formed, variables-bound, every-append, fits-short, there-and-back, image-wellFormed, formed-parts}
-use Rattle.calculus.specs.Calculus.{premises, conclusions, changes, isPlain, amountFits, covers, there, allShort, step, leaves, judged, directStep}
+use Rattle.configuration.specs.Limits.{within}
+use Rattle.configuration.specs.LineLaws.{polynomial-below, polynomial-sorted, polynomial-is, sum-sign, every-append, within-accepted, configuration-parts, parts-configuration}
+use Rattle.calculus.specs.Calculus.{premises, conclusions, changes, isPlain, amountFits, covers, there, allShort, modeTests, changed, step, operandTests, directStep}
 use Rattle.calculus.specs.declared.Rule.{Rule}
 use Rattle.calculus.specs.declared.Rule.the-variants.{Sum, Prod}
 use Rattle.calculus.specs.declared.Mode.{Mode}
 use Rattle.calculus.specs.declared.Mode.the-variants.{Plain}
-use Rattle.run.specs.Boolean as B
+use Rattle.run.specs.BooleanLaws as B
 use Rattle.polynomial.specs.PolynomialLaws as P
 use Rattle.configuration.specs.ConfigurationLaws as C
 
@@ -102,58 +105,45 @@ none-changed n f g w hf hg h = C.unique (addAll (changes Prod f g w) []) [] (all
     go p k (inr e) = rw (e, product-whole n f g a b s e, same-none p k, share-neg (same p f) w)
         (solve (share (same p f) w ∷ []) (o ⊞ (⊟ (v 0) ⊞ (v 0 ⊞ (o ⊞ o)))) o tt)
 
--- ---- what a step passed, if it was taken
-pub unless-taken : (b : Bool) (n : ℕ) (s : Step) {M : List Line} → unless b n s ≡ taken M → (b ≡ true) × (s ≡ taken M)
-unless-taken true n s e = (refl, e)
-unless-taken false n s e = let z : _≡_ {A = ℕ} 0 1 = cc in let x : ⊥ = omega arith in absurd x
-
-same-taken : {N M : List Line} → taken N ≡ taken M → M ≡ N
-same-taken e = cc
-
-within-taken : (N M : List Line) → within N ≡ taken M → (M ≡ N) × ((leb (length N) 128 ≡ true) × (weightsFit N ≡ true))
-unfolding within
-within-taken N M e =
-    let a : _ = unless-taken _ _ _ e in
-    let b : _ = unless-taken _ _ _ (a .1) in
-    (same-taken (b .1), (a .0, b .0))
-
-pub record Passed (r : Rule) (d : Mode) (f g : List ℕ) (w : ℤ) (L M : List Line) : Type 0 where
+-- ---- what a step that is taken passed, and what it leaves
+pub record TakenStep (r : Rule) (d : Mode) (f g : List ℕ) (w : ℤ) (L M : List Line) : Type 0 where
   pub plain : not (isPlain d && anyNegative L) ≡ true
   pub amount : amountFits d w ≡ true
   pub covered : (not (isPlain d) || there L (premises r f g w)) ≡ true
   pub short : allShort (conclusions r f g w) ≡ true
   pub result : M ≡ addAll (changes r f g w) L
-  pub lines : leb (length M) 128 ≡ true
-  pub weights : weightsFit M ≡ true
+  pub lines : length M ≤ 128
+  pub weights : T (weightsFit M)
 
-pub step-passed : (r : Rule) (d : Mode) (f g : List ℕ) (w : ℤ) (L M : List Line) → step r d f g w L ≡ taken M → Passed r d f g w L M
+pub step-passed : (r : Rule) (d : Mode) (f g : List ℕ) (w : ℤ) (L M : List Line) → step r d f g w L ≡ accepted M → TakenStep r d f g w L M
 unfolding step
 step-passed r d f g w L M e =
-    let a : _ = unless-taken _ _ _ e in
-    let b : _ = unless-taken _ _ _ (a .1) in
-    let k : _ = unless-taken _ _ _ (b .1) in
-    let h : _ = unless-taken _ _ _ (k .1) in
-    let x : _ = within-taken (addAll (changes r f g w) L) M (h .1) in
-    record { plain = a .0; amount = b .0; covered = k .0; short = h .0; result = x .0; lines = rw (x .0) (x .1 .0); weights = rw (x .0) (x .1 .1) }
+    let a : _ = passing-taken (modeTests r d f g w L) (changed r f g w L) e in
+    let h : _ = unless-taken (allShort (conclusions r f g w)) 7 (within (addAll (changes r f g w) L)) (a .1) in
+    let x : _ = within-accepted (addAll (changes r f g w) L) M (h .1) in
+    record {
+      plain = a .0 .0;
+      amount = a .0 .1 .0;
+      covered = a .0 .1 .1 .0;
+      short = h .0;
+      result = x .0;
+      lines = rw (x .0) (x .1 .0);
+      weights = rw (x .0) (x .1 .1);
+    }
 
-pub step-taken : (r : Rule) (d : Mode) (f g : List ℕ) (w : ℤ) (L M : List Line) → step r d f g w L ≡ taken M → M ≡ addAll (changes r f g w) L
+pub step-taken : (r : Rule) (d : Mode) (f g : List ℕ) (w : ℤ) (L M : List Line) → step r d f g w L ≡ accepted M → M ≡ addAll (changes r f g w) L
 step-taken r d f g w L M e = step-passed r d f g w L M e .result
 
 -- ---- a step keeps every cost, taken or refused
--- what a step leaves
-abbrev pub left : Step → List Line → List Line
-left (taken M) L = M
-left (refused n) L = L
-
-pub step-cost : (r : Rule) (d : Mode) (f g : List ℕ) (w : ℤ) (L : List Line) (α : ℕ) → cost (left (step r d f g w L) L) α ≡ cost L α
+pub step-cost : (r : Rule) (d : Mode) (f g : List ℕ) (w : ℤ) (L : List Line) (α : ℕ) → cost (after L (step r d f g w L) .reached) α ≡ cost L α
 step-cost r d f g w L α = go (step r d f g w L) refl
   where
-    go : (s : Step) → step r d f g w L ≡ s → cost (left s L) α ≡ cost L α
-    go (taken M) e = rw (step-taken r d f g w L M e) (stepped-cost r f g w L α)
+    go : (s : Outcome (List Line)) → step r d f g w L ≡ s → cost (after L s .reached) α ≡ cost L α
+    go (accepted M) e = rw (step-taken r d f g w L M e) (stepped-cost r f g w L α)
     go (refused n) e = refl
 
--- ---- a taken step is the rule, folded: premises away, conclusions in, and nothing else
-pub step-weights : (r : Rule) (d : Mode) (f g : List ℕ) (w : ℤ) (L M : List Line) → step r d f g w L ≡ taken M → (p : List ℕ) → T (some p)
+-- ---- a step that is taken is the rule, folded: premises away, conclusions in, and nothing else
+pub step-weights : (r : Rule) (d : Mode) (f g : List ℕ) (w : ℤ) (L M : List Line) → step r d f g w L ≡ accepted M → (p : List ℕ) → T (some p)
     → weight M p ≡ weight L p -ℤ weight (premises r f g w) p +ℤ weight (conclusions r f g w) p
 step-weights r d f g w L M e p n =
     let P : ℤ = weight (premises r f g w) p in
@@ -176,17 +166,17 @@ difference-sign (negsuc a) (pos b) h = refl
 difference-sign (negsuc a) (negsuc b) h = sub-sign (suc a) (suc b) (omega (arith, leb→le b a h))
 
 -- without negative weights no sum over the lines is negative
-pub total-sign : (test : List ℕ → Bool) (L : List Line) → anyNegative L ≡ false → isNegative (total test L) ≡ false
+total-sign : (test : List ℕ → Bool) (L : List Line) → anyNegative L ≡ false → isNegative (total test L) ≡ false
 unfolding total anyNegative
 total-sign test [] h = refl
 total-sign test (line f (negsuc k) ∷ L) h = absurd (true≢false h)
 total-sign test (line f (pos k) ∷ L) h = sum-sign (share (test f) (pos k)) (total test L) (share-sign (test f) (pos k) refl) (total-sign test L h)
 
 -- where no weight of a polynomial is negative, no line of an ordered configuration is
-pub weights-sign : (L : List Line) → Ordered L → ((p : List ℕ) → T (some p) → isNegative (weight L p) ≡ false) → anyNegative L ≡ false
+lines-sign : (L : List Line) → InOrder L → ((p : List ℕ) → T (some p) → isNegative (weight L p) ≡ false) → anyNegative L ≡ false
 unfolding total anyNegative
-weights-sign [] r h = refl
-weights-sign (line f w ∷ L) r h = rw (sym (ap isNegative (weight-head f w L (r .1 .1 .0))) ∙ h f (r .0)) (weights-sign L (r .1 .1 .1) (λ p n. go p n (same p f) refl))
+lines-sign [] r h = refl
+lines-sign (line f w ∷ L) r h = rw (sym (ap isNegative (weight-head f w L (r .1 .1 .0))) ∙ h f (r .0)) (lines-sign L (r .1 .1 .1) (λ p n. go p n (same p f) refl))
   where
     go : (p : List ℕ) → T (some p) → (b : Bool) → same p f ≡ b → isNegative (weight L p) ≡ false
     go p n true e = rw (same-is p f (of-true e), weight-behind f L (r .1 .1 .0))
@@ -227,15 +217,11 @@ unfolding anyNegative
 conclusions-sign Sum f g w h = rw (h, sum-sign w w h h)
 conclusions-sign Prod f g w h = rw h
 
-pub not-true : (b : Bool) → not b ≡ true → b ≡ false
-not-true true h = sym h
-not-true false h = refl
-
-pub plain-stays : (r : Rule) (f g : List ℕ) (w : ℤ) (L M : List Line) → Ordered L → step r Plain f g w L ≡ taken M → anyNegative M ≡ false
+pub plain-stays : (r : Rule) (f g : List ℕ) (w : ℤ) (L M : List Line) → InOrder L → step r Plain f g w L ≡ accepted M → anyNegative M ≡ false
 plain-stays r f g w L M k e =
-    let q : Passed r Plain f g w L M = step-passed r Plain f g w L M e in
+    let q : TakenStep r Plain f g w L M = step-passed r Plain f g w L M e in
     let s : isNegative w ≡ false = amount-sign w (q .amount) in
-    weights-sign M (rw (q .result) (all-ordered (changes r f g w) L k)) (λ p n. rw (step-weights r Plain f g w L M e p n)
+    lines-sign M (rw (q .result) (all-ordered (changes r f g w) L k)) (λ p n. rw (step-weights r Plain f g w L M e p n)
     (sum-sign (weight L p -ℤ weight (premises r f g w) p) (weight (conclusions r f g w) p)
     (difference-sign (weight (premises r f g w) p) (weight L p)
     (there-weight L (premises r f g w) p n (of-true (q .covered)) (total-sign (same p) L (not-true (anyNegative L) (q .plain)))))
@@ -257,14 +243,14 @@ every-negated P [] a = tt
 every-negated P (line f w ∷ L) a = (a .0, every-negated P L (a .1))
 
 module _ (r : Rule) (f g : List ℕ) (w : ℤ) (n : ℕ) (hf : T (isPolynomial n f)) (hg : T (isPolynomial n g)) where
-  pub premises-fit : Every (λ p. T (isPolynomial n p)) (premises r f g w)
+  premises-fit : Every (λ p. T (isPolynomial n p)) (premises r f g w)
   premises-fit = go r
     where
       go : (r : Rule) → Every (λ p. T (isPolynomial n p)) (premises r f g w)
       go Sum = (hf, (hg, tt))
       go Prod = (hf, tt)
 
-  pub conclusions-fit : T (allShort (conclusions r f g w)) → Every (λ p. T (isPolynomial n p)) (conclusions r f g w)
+  conclusions-fit : T (allShort (conclusions r f g w)) → Every (λ p. T (isPolynomial n p)) (conclusions r f g w)
   conclusions-fit h = short-fit n (conclusions r f g w) h (go r)
     where
       a : Below n f
@@ -283,79 +269,44 @@ module _ (r : Rule) (f g : List ℕ) (w : ℤ) (n : ℕ) (hf : T (isPolynomial n
       go Sum = ((sum-below n f g a b, sum-ordered f g), ((product-below n f g a b, product-ordered f g), tt))
       go Prod = ((product-below n f g a b, product-ordered f g), ((product-below n f g₁ a (sum-below n g ONE b one), product-ordered f g₁), tt))
 
-  pub changes-fit : T (allShort (conclusions r f g w)) → Every (λ p. T (isPolynomial n p)) (changes r f g w)
+  changes-fit : T (allShort (conclusions r f g w)) → Every (λ p. T (isPolynomial n p)) (changes r f g w)
   changes-fit h =
       every-append (λ p. T (isPolynomial n p)) (negated (premises r f g w)) (conclusions r f g w)
       (every-negated (λ p. T (isPolynomial n p)) (premises r f g w) premises-fit) (conclusions-fit h)
 
 pub step-fits : (r : Rule) (d : Mode) (f g : List ℕ) (w : ℤ) (n : ℕ) (L M : List Line) → T (isPolynomial n f) → T (isPolynomial n g) → T (linesFit n L)
-    → step r d f g w L ≡ taken M → T (linesFit n M) × (length M ≤ 128) × T (weightsFit M)
+    → step r d f g w L ≡ accepted M → T (linesFit n M) × (length M ≤ 128) × T (weightsFit M)
 step-fits r d f g w n L M p q h e =
-    let s : Passed r d f g w L M = step-passed r d f g w L M e in (
-      rw (s .result) (all-fit n (changes r f g w) L (changes-fit r f g w n p q (of-true (s .short))) h),
-      leb→le (length M) 128 (of-true (s .lines)),
-      of-true (s .weights),
-    )
+    let s : TakenStep r d f g w L M = step-passed r d f g w L M e in
+    (rw (s .result) (all-fit n (changes r f g w) L (changes-fit r f g w n p q (of-true (s .short))) h), s .lines, s .weights)
 
--- ---- a step in lent memory
--- what it passed, if it was taken
-pub record Admitted (r : Rule) (d : Mode) (f g : List ℕ) (w : ℤ) (m : Memory) (M : List Line) : Type 0 where
-  pub lengths : sized 128 m ≡ true
-  pub whole : wellFormed m ≡ true
-  pub short : (leb (length f) 64 && leb (length g) 64) ≡ true
-  pub variables : (below (m .variables) f && below (m .variables) g) ≡ true
-  pub ordered : (sorted before f && sorted before g) ≡ true
-  pub stepped : step r d f g w (linesOf m) ≡ taken M
+pub step-keeps : (r : Rule) (d : Mode) (f g : List ℕ) (w : ℤ) (n : ℕ) (L M : List Line) → T (isConfiguration n L) → T (isPolynomial n f) → T (isPolynomial n g)
+    → step r d f g w L ≡ accepted M → T (isConfiguration n M)
+step-keeps r d f g w n L M c p q e =
+    let k : _ = configuration-parts n L c in
+    let h : _ = step-fits r d f g w n L M p q (k .fit) e in
+    parts-configuration n M (record { variables = k .variables; room = h .1; fit = h .0; weights = h .2 })
 
+-- ---- a step that is taken directly: its operands passed their tests, and it is the step
 -- three tests of two each, as two tests of three each
-pub regroup : (a b c d x y : Bool) → T (a && b) → T (c && d) → T (x && y) → T (a && (c && x)) × T (b && (d && y))
+regroup : (a b c d x y : Bool) → T (a && b) → T (c && d) → T (x && y) → T (a && (c && x)) × T (b && (d && y))
 regroup a b c d x y h k l =
     (both a (c && x) (B.left a b h) (both c x (B.left c d k) (B.left x y l)), both b (d && y) (B.right a b h) (both d y (B.right c d k) (B.right x y l)))
 
-module _ (r : Rule) (d : Mode) (f g : List ℕ) (w : ℤ) (m : Memory) (M : List Line) (e : judged r d f g w m ≡ taken M) where
-  pub direct-passed : Admitted r d f g w m M
-  unfolding judged
+pub operands-passed : (n : ℕ) (f g : List ℕ) → AllPassed (operandTests n f g) → T (isPolynomial n f) × T (isPolynomial n g)
+operands-passed n f g a =
+    regroup (leb (length f) 64) (leb (length g) 64) (below n f) (below n g) (sorted before f) (sorted before g) (of-true (a .0)) (of-true (a .1 .0)) (of-true (a .1 .1 .0))
+
+module _ (r : Rule) (d : Mode) (f g : List ℕ) (w : ℤ) (n : ℕ) (L M : List Line) (e : directStep r d f g w n L ≡ accepted M) where
+  pub direct-passed : T (isPolynomial n f) × T (isPolynomial n g) × (step r d f g w L ≡ accepted M)
+  unfolding directStep
   direct-passed =
-      let a : _ = unless-taken _ _ _ e in
-      let b : _ = unless-taken _ _ _ (a .1) in
-      let k : _ = unless-taken _ _ _ (b .1) in
-      let h : _ = unless-taken _ _ _ (k .1) in
-      let x : _ = unless-taken _ _ _ (h .1) in
-      record { lengths = a .0; whole = b .0; short = k .0; variables = h .0; ordered = x .0; stepped = x .1 }
+      let a : _ = passing-taken (operandTests n f g) (step r d f g w L) e in
+      let o : _ = operands-passed n f g (a .0) in
+      (o .0, o .1, a .1)
 
-  operands : T (isPolynomial (m .variables) f) × T (isPolynomial (m .variables) g)
-  operands =
-      let q : Admitted r d f g w m M = direct-passed in
-      regroup (leb (length f) 64) (leb (length g) 64) (below (m .variables) f) (below (m .variables) g) (sorted before f) (sorted before g)
-      (of-true (q .short)) (of-true (q .variables)) (of-true (q .ordered))
+  pub direct-keeps : T (isConfiguration n L) → T (isConfiguration n M)
+  direct-keeps c = let q : _ = direct-passed in step-keeps r d f g w n L M c (q .0) (q .1) (q .2)
 
-  direct-fits : T (linesFit (m .variables) M) × (length M ≤ 128) × T (weightsFit M)
-  direct-fits =
-      let q : Admitted r d f g w m M = direct-passed in
-      step-fits r d f g w (m .variables) (linesOf m) M (operands .0) (operands .1) (formed-parts 128 m (well-formed m (of-true (q .whole))) .fit) (q .stepped)
-
-  direct-read : linesOf (imageOf 128 (m .variables) M) ≡ M
-  direct-read = there-and-back 128 (m .variables) M (fits-short (m .variables) M (direct-fits .0))
-
-module _ (r : Rule) (d : Mode) (f g : List ℕ) (w : ℤ) (m : Memory) where
-  pub direct-keeps : T (wellFormed m) → T (wellFormed (directStep r d f g w m .memory))
-  direct-keeps h = go (judged r d f g w m) refl
-    where
-      go : (s : Step) → judged r d f g w m ≡ s → T (wellFormed (leaves m s .memory))
-      go (taken M) e = let q : _ = direct-fits r d f g w m M e in image-wellFormed (m .variables) M (q .1) (variables-bound m h) (q .0) (q .2)
-      go (refused n) e = h
-
-  pub direct-cost : (α : ℕ) → cost (linesOf (directStep r d f g w m .memory)) α ≡ cost (linesOf m) α
-  direct-cost α = go (judged r d f g w m) refl
-    where
-      go : (s : Step) → judged r d f g w m ≡ s → cost (linesOf (leaves m s .memory)) α ≡ cost (linesOf m) α
-      go (taken M) e =
-          rw (direct-read r d f g w m M e, step-taken r d f g w (linesOf m) M (direct-passed r d f g w m M e .stepped)) (stepped-cost r f g w (linesOf m) α)
-      go (refused n) e = refl
-
-  pub direct-variables : directStep r d f g w m .memory .variables ≡ m .variables
-  direct-variables = go (judged r d f g w m)
-    where
-      go : (s : Step) → leaves m s .memory .variables ≡ m .variables
-      go (taken M) = refl
-      go (refused n) = refl
+  pub direct-cost : (α : ℕ) → cost M α ≡ cost L α
+  direct-cost α = rw (step-taken r d f g w L M (direct-passed .2)) (stepped-cost r f g w L α)

@@ -1,5 +1,4 @@
 pub mod Calculus
 pub mod CalculusLaws
-pub mod Planning
 pub mod Tests
 pub mod TestsLaws

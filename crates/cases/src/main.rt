@@ -1,7 +1,6 @@
 // Runs the shipped cases: for each what the checking program prints, and then what the program that tells codes prints. The
 // files of case 7 are `p007` and `s007`; what they hold is written in cases.txt.
 use files::read_file;
-use report::Report;
 use report::Text;
 use report::check_files;
 use report::code_file;
@@ -33,10 +32,8 @@ fn name_of(letter: u8, number: usize) -> [u8; 4]
 
 // Prints the report on a problem and a derivation.
 fn print_check(bytes: &[u8], steps: &[u8], out: &mut [u8]) {
-    let report = check_files(bytes, steps, out);
-    if let Report::Written(size) = report {
-        print(&out[..size]);
-    }
+    let size = check_files(bytes, steps, out);
+    print(&out[..size])
 }
 
 // One case.

@@ -1,7 +1,6 @@
 // Checks the derivation in the file `steps.bin` against the problem in the file `problem.bin`, both in the working folder:
 // prints the listing before, the listing after, and the verdict.
 use files::read_file;
-use report::Report;
 use report::check_files;
 
 fn print(text: &[u8]) {
@@ -11,10 +10,8 @@ fn print(text: &[u8]) {
 // Prints the whole report.
 fn run(bytes: &[u8], steps: &[u8]) {
     let mut out = [0u8; 2179648];
-    let report = check_files(bytes, steps, &mut out);
-    if let Report::Written(size) = report {
-        print(&out[..size]);
-    }
+    let size = check_files(bytes, steps, &mut out);
+    print(&out[..size])
 }
 
 // One byte more than a file may have is read, so that a longer one is told.

@@ -1,11 +1,3 @@
-pub mod Calling
-pub mod Elements
-pub mod Filling
-pub mod Holding
-pub mod Lending
-pub mod Locals
+pub mod Walking
 pub mod Operating
 pub mod Outcomes
-pub mod Sharing
-pub mod Slices
-pub mod Walking

@@ -1,108 +1,83 @@
--- What an operation over records leaves: where the table has another length than 128, and where the operation on its two runs was called.
-use mathlib.Core.Bool.{Bool, true, false, _&&_}
+-- What an operation leaves: of a memory that the tests refuse, of lines that are read, worked on and written back, and of a table that is loaded and stored again.
 use mathlib.Core.Path.{_≡_, refl, sym, ap, _∙_}
-use mathlib.Core.List.{List}
+use mathlib.Core.Bool.{true, false}
+use mathlib.Core.List.{List, [], _∷_}
 use Prim.Native.Nat.{ℕ}
-use lib.Dec.{eqb}
-use lib.IntN.{ℤ}
-use lib.ListN.{length, length-map}
-use Rattle.refusal.specs.declared.Reason.the-variants.{WrongLength}
-use Rattle.configuration.specs.declared.Head.{Head}
-use Rattle.calculus.specs.declared.Rule.{Rule}
-use Rattle.calculus.specs.declared.Mode.{Mode}
-use Rattle.derivation.specs.DerivationLaws.{check-refused-1}
-use Rattle.checker.specs.Records.{weightsIn, countsIn, tableOf, Memory, memoryOf, runsOf}
-use Rattle.checker.specs.RecordsLaws.{records-runs}
-use Rattle.checker.specs.Checker.{stepLeft, stepOn, stepIn, checkLeft, checkOn, checkIn, lent, fileLeft, fileOn, fileIn, writeIn}
-use Rattle.checker.specs.declared.Line.{Line}
-use Rattle.checker.specs.declared.table.Table.{Table}
-use Rattle.configuration.specs.Memory as M
-use Rattle.calculus.specs.Calculus as C
-use Rattle.calculus.specs.declared.Answer as C′
-use Rattle.calculus.specs.declared.Answer.the-variants as stepping
-use Rattle.derivation.specs.Derivation as D
-use Rattle.derivation.specs.declared.Answer as D′
-use Rattle.derivation.specs.declared.Answer.the-variants as checking
-use Rattle.problem.specs.Problem as P
-use Rattle.problem.specs.declared.Answer as P′
-use Rattle.problem.specs.declared.Answer.the-variants as filing
-use Rattle.listing.specs.Listing as L
-use Rattle.listing.specs.declared.Answer as L′
-use Rattle.listing.specs.declared.Answer.the-variants as writing
+use lib.Dec.{T}
+use lib.ListN.{length}
+use borrow.Author.Tests.{eq-eqb, ne-eqb}
+use Rattle.run.specs.BooleanLaws.{of-true}
+use Rattle.refusal.specs.Refusal.{numberOf}
+use Rattle.refusal.specs.Outcome.{Outcome, accepted, refused, mapped, Test, test, passing, Reached, after, stopOf, objected, Told, refusedAt}
+use Rattle.refusal.specs.OutcomeLaws.{not-both, same-refused, after-refused, after-accepted}
+use Rattle.refusal.specs.TestsLaws.{passing-taken}
+use Rattle.refusal.specs.declared.Reason.{Reason}
+use Rattle.refusal.specs.declared.Objection.{Objection}
+use Rattle.refusal.specs.declared.Objection.the-variants.{Nothing, Found}
+use Rattle.configuration.specs.Configuration.{Line}
+use Rattle.configuration.specs.Made.{Made}
+use Rattle.memory.specs.Memory.{Memory, memoryOf, standingOf, imageOf, wellFormed}
+use Rattle.memory.specs.declared.Entry.{Entry}
+use Rattle.memory.specs.declared.Head.{Head}
+use Rattle.checker.specs.CheckerLaws.{not-sized, not-formed, admitted-well}
+use Rattle.checker.specs.Checker.{memoryTests, admitted, Left, leftOf, leftBy, done, stepped}
 
--- ---- a table of another length gives runs of another length
-not-both : (a b c : Bool) → b ≡ false → (a && (b && c)) ≡ false
-not-both true b c e = rw e
-not-both false b c e = refl
+-- ---- the tests of what is lent
+module _ (m : Memory) where
+  abbrev passed : Outcome (Unit {0})
+  passed = accepted tt
 
-not-sized : (m : Memory) → eqb (length (m .table)) 128 ≡ false → M.sized 128 (runsOf m) ≡ false
-not-sized m e =
-    let w : eqb (length (weightsIn (m .table))) 128 ≡ false = rw (length-map (m .table) (λ (l : Line). l .weight)) e in
-    not-both (eqb (length (m .terms)) 8192) (eqb (length (weightsIn (m .table))) 128) (eqb (length (countsIn (m .table))) 128) w
+  pub not-long : (length (m .terms) ≡ 8192 → ⊥) → refused 1 ≡ admitted m passed
+  not-long h = sym (not-sized m passed (rw (ne-eqb (length (m .terms)) 8192 h)))
 
--- a table that was loaded
-abbrev pub Loaded : Table → List Line → Type 0
-Loaded t ls = t ≡ record { weights = weightsIn ls; counts = countsIn ls }
+  pub ill-formed : length (m .terms) ≡ 8192 → length (m .table) ≡ 128 → wellFormed m ≡ false → refused 2 ≡ admitted m passed
+  ill-formed s t h = sym (not-formed m passed (rw (eq-eqb (length (m .terms)) 8192 s, eq-eqb (length (m .table)) 128 t)) h)
 
--- ---- taking one step
-module _ (r : Rule) (d : Mode) (f g : List ℕ) (w : ℤ) (h : Head) (ts : List ℕ) (ls : List Line) where
-  pub step-unfit : eqb (length ls) 128 ≡ false → stepLeft (memoryOf h ts ls) (stepping.Refused 0 WrongLength) ≡ stepIn r d f g w (memoryOf h ts ls)
-  unfolding C.judged
-  step-unfit e =
-      ap (λ (m : Memory). stepLeft m (stepping.Refused 0 WrongLength)) (sym (records-runs (memoryOf h ts ls)))
-      ∙ rw (not-sized (memoryOf h ts ls) e) refl
+  pub all-fit : wellFormed m ≡ true → passed ≡ admitted m passed
+  all-fit h = sym (admitted-well m passed (of-true h))
 
-  abbrev pub Stepped : Table → Head → C′.Answer → List ℕ → Table → Type 0
-  Stepped t k a us v = C.leftOf (M.memoryOf k us (v .weights) (v .counts)) a ≡ C.directStep r d f g w (M.memoryOf h ts (t .weights) (t .counts))
+  -- what code finds
+  module _ (found : Objection) (tested : objected found passed ≡ admitted m passed) where
+    pub admitted-as : {A : Type 0} (o : Outcome A) → objected found o ≡ admitted m o
+    admitted-as o = go found (memoryTests m) o tested
+      where
+        go : {A : Type 0} (found : Objection) (ts : List Test) (o : Outcome A) → objected found passed ≡ passing ts passed → objected found o ≡ passing ts o
+        go Nothing [] o e = refl
+        go (Found r) [] o e = absurd (not-both (sym e))
+        go found (test n true ∷ ts) o e = go found ts o e
+        go Nothing (test n false ∷ ts) o e = absurd (not-both e)
+        go (Found r) (test n false ∷ ts) o e = ap refused (same-refused e)
 
-  pub step-done : (t : Table) (k : Head) (a : C′.Answer) (us : List ℕ) (v : Table) (zs : List Line) → Loaded t ls → Stepped t k a us v → zs ≡ tableOf (v .weights) (v .counts)
-      → stepLeft (memoryOf k us zs) a ≡ stepIn r d f g w (memoryOf h ts ls)
-  step-done t k a us v zs e p q =
-      ap (λ (l : List Line). stepLeft (memoryOf k us l) a) q ∙ ap stepOn p
-      ∙ ap (λ (x : Table). stepOn (C.directStep r d f g w (M.memoryOf h ts (x .weights) (x .counts)))) e
+    pub well : found ≡ Nothing → T (wellFormed m)
+    well e = of-true (passing-taken (memoryTests m) passed (sym tested ∙ ap (λ (x : Objection). objected x passed) e) .0 .1 .0)
 
--- ---- checking a derivation
-module _ (s : List ℕ) (h : Head) (ts : List ℕ) (ls : List Line) where
-  pub check-unfit : eqb (length ls) 128 ≡ false → checkLeft (memoryOf h ts ls) (checking.Refused 0 WrongLength) ≡ checkIn s (memoryOf h ts ls)
-  check-unfit e =
-      ap (λ (m : Memory). checkLeft m (checking.Refused 0 WrongLength)) (sym (records-runs (memoryOf h ts ls)))
-      ∙ ap checkOn (sym (check-refused-1 s (runsOf (memoryOf h ts ls)) (not-sized (memoryOf h ts ls) e)))
+-- ---- what is written back
+pub closed : {A : Type 0} (n : ℕ) (k : Memory) (L : List Line) (told : Told A) (x : Made A) → k ≡ imageOf n L
+    → _≡_ {A = Made A} (record { variables = n; lines = L; told = told }) x → leftOf k told ≡ leftOf (imageOf (x .variables) (x .lines)) (x .told)
+closed {A} n k L told x e f =
+    ap (λ (l : Memory). leftOf l told) e ∙ ap (λ (y : Made A). leftOf (imageOf (y .variables) (y .lines)) (y .told)) f
 
-  abbrev pub Checked : Table → Head → D′.Answer → List ℕ → Table → Type 0
-  Checked t k a us v = D.leftOf (M.memoryOf k us (v .weights) (v .counts)) a ≡ D.checkDerivation s (M.memoryOf h ts (t .weights) (t .counts))
+-- ---- a step on the lines L of a memory
+module _ (m : Memory) (step : List Line → Outcome (List Line)) (L N : List Line) (held : L ≡ standingOf m) (found : Objection)
+    (made : _≡_ {A = Reached (List Line)} (record { reached = N; stop = stopOf found }) (after L (step L))) where
+  abbrev outcome : List Line → Left (Unit {0})
+  outcome l = leftBy m (mapped (stepped (m .variables)) (step l))
 
-  pub check-done : (t : Table) (k : Head) (a : D′.Answer) (us : List ℕ) (v : Table) (zs : List Line) → Loaded t ls → Checked t k a us v → zs ≡ tableOf (v .weights) (v .counts)
-      → checkLeft (memoryOf k us zs) a ≡ checkIn s (memoryOf h ts ls)
-  check-done t k a us v zs e p q =
-      ap (λ (l : List Line). checkLeft (memoryOf k us l) a) q ∙ ap checkOn p
-      ∙ ap (λ (x : Table). checkOn (D.checkDerivation s (M.memoryOf h ts (x .weights) (x .counts)))) e
+  abbrev reached : Objection → Reached (List Line)
+  reached o = record { reached = N; stop = stopOf o }
 
--- ---- filing a problem
-module _ (s ts : List ℕ) (ls : List Line) where
-  pub file-unfit : eqb (length ls) 128 ≡ false
-      → fileLeft (memoryOf (record { variables = 0; lines = 0 }) ts ls) (filing.Refused 0 WrongLength) ≡ fileIn s (lent ts ls)
-  unfolding P.fileProblem
-  file-unfit e =
-      ap (λ (m : Memory). fileLeft m (filing.Refused 0 WrongLength)) (sym (records-runs (lent ts ls)))
-      ∙ rw (not-sized (lent ts ls) e) refl
+  pub step-refused : (reason : Reason) → found ≡ Found reason → leftOf m (refusedAt 0 (numberOf reason)) ≡ outcome (standingOf m)
+  step-refused reason e =
+      let s : step L ≡ refused (numberOf reason) = after-refused L N (numberOf reason) (step L) (ap reached (sym e) ∙ made) .0 in
+      ap (λ (o : Outcome (List Line)). leftBy m (mapped (stepped (m .variables)) o)) (sym s) ∙ ap outcome held
 
-  abbrev pub Filed : Table → Head → P′.Answer → List ℕ → Table → Type 0
-  Filed t k a us v = P.leftOf (M.memoryOf k us (v .weights) (v .counts)) a ≡ P.fileProblem s (P.lent ts (t .weights) (t .counts))
+  pub step-taken : found ≡ Nothing → (k : Memory) → k ≡ imageOf (m .variables) N → leftOf k done ≡ outcome (standingOf m)
+  step-taken e k i =
+      let s : step L ≡ accepted N = after-accepted L N (step L) (ap reached (sym e) ∙ made) in
+      ap (λ (l : Memory). leftOf l done) i ∙ ap (λ (o : Outcome (List Line)). leftBy m (mapped (stepped (m .variables)) o)) (sym s) ∙ ap outcome held
 
-  pub file-done : (t : Table) (k : Head) (a : P′.Answer) (us : List ℕ) (v : Table) (zs : List Line) → Loaded t ls → Filed t k a us v → zs ≡ tableOf (v .weights) (v .counts)
-      → fileLeft (memoryOf k us zs) a ≡ fileIn s (lent ts ls)
-  file-done t k a us v zs e p q =
-      ap (λ (l : List Line). fileLeft (memoryOf k us l) a) q ∙ ap fileOn p
-      ∙ ap (λ (x : Table). fileOn (P.fileProblem s (P.lent ts (x .weights) (x .counts)))) e
-
--- ---- writing one line
-module _ (n : ℕ) (h : Head) (ts : List ℕ) (ls : List Line) (area : List ℕ) where
-  pub write-unfit : eqb (length ls) 128 ≡ false → record { area = area; told = L.toldOf (writing.Refused 0 WrongLength) } ≡ writeIn n (memoryOf h ts ls) area
-  unfolding L.writeLine
-  write-unfit e = rw (not-sized (memoryOf h ts ls) e) refl
-
-  abbrev pub Written : Table → L′.Answer → List ℕ → Type 0
-  Written t a us = record { area = us; told = L.toldOf a } ≡ L.writeLine n (M.memoryOf h ts (t .weights) (t .counts)) area
-
-  pub write-done : (t : Table) (a : L′.Answer) (us : List ℕ) → Loaded t ls → Written t a us → record { area = us; told = L.toldOf a } ≡ writeIn n (memoryOf h ts ls) area
-  write-done t a us e p = p ∙ ap (λ (x : Table). L.writeLine n (M.memoryOf h ts (x .weights) (x .counts)) area) e
+-- ---- a table by reference: t is what was loaded from ls, v what was made of it, and zs what was stored
+pub stored : {A : Type 0} (op : Memory → Left A) (h k : Head) (ts us : List ℕ) (t ls v zs : List Entry) (told : Told A) → t ≡ ls
+    → leftOf (memoryOf k us v) told ≡ op (memoryOf h ts t) → zs ≡ v → leftOf (memoryOf k us zs) told ≡ op (memoryOf h ts ls)
+stored op h k ts us t ls v zs told loaded made kept =
+    ap (λ (l : List Entry). leftOf (memoryOf k us l) told) kept ∙ made ∙ ap (λ (l : List Entry). op (memoryOf h ts l)) loaded

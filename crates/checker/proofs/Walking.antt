@@ -1,56 +1,59 @@
--- What the walks of this crate share: the machine values of a record, of a table and of a head, and a loop's count of turns.
-use mathlib.Core.WellFounded.{WellFounded, InvImage·wf}
-use mathlib.Core.List.{[], _∷_}
-use Prim.Native.Nat.{ℕ, _-_, _≤_, _<_}
-use lib.WfN.{Nat·lt-wfRel}
+-- What the walks of this crate share: the machine values of a head, and of the records of a line table by value, spelt as they are in a struct's field.
+use mathlib.Core.Path.{refl, sym, _∙_, ap}
+use mathlib.Core.List.{List, [], _∷_, map, map-map}
+use lib.ListN.{length-map}
 use mir.Val.{Val}
-use denote.RattleType.{RattleType}
-use denote.Laws.{Is}
+use denote.Shadow.{shadow}
+use denote.Laws.{Is, Tells}
+use denote.Array.{each, arrayVal, array-tells}
+use denote.Struct.Field.{Field, array-field}
 use denote.Struct.Laws as LL
-use Rattle.checker.specs.declared.Line.{Line}
-use Rattle.checker.specs.declared.table.Table.{Table}
-use Rattle.checker.proofs.Calling.{Datum, struct-datum}
-use Rattle.configuration.proofs.Head as head
-use Rattle.configuration.proofs.Head.Laws as head′
-use Rattle.checker.proofs.Line as line
-use Rattle.checker.proofs.Line.Laws as line′
-use Rattle.checker.proofs.table.Table as table
-use Rattle.checker.proofs.table.Table.Laws as table′
-
--- ---- a record
-abbrev pub R : RattleType
-R = line.the-row
-
-abbrev pub line-value : Line → Val
-line-value l = LL.val line.the-type line′.the-laws l
-
--- ---- a table by value
-abbrev pub B : RattleType
-B = table.the-row
-
-abbrev pub table-value : Table → Val
-table-value t = LL.val table.the-type table′.the-laws t
-
-abbrev pub IsTable : Table → Type 0
-IsTable t = Is B t (table-value t ∷ [])
-
--- ---- as plain data that is passed and returned
-abbrev pub line-datum : Datum R
-line-datum = struct-datum line.the-type line′.the-laws line′.the-plain line′.the-copy
-
-abbrev pub table-datum : Datum B
-table-datum = struct-datum table.the-type table′.the-laws table′.the-plain table′.the-copy
+use Rattle.memory.specs.declared.Entry.{Entry}
+use Rattle.memory.proofs.Calling.{Datum, struct-datum}
+use Rattle.memory.proofs.Elements.{Entries}
+use Rattle.memory.proofs.Walking.{R}
+use Rattle.memory.proofs.Elements as E
+use Rattle.memory.proofs.Entry as entry
+use Rattle.memory.proofs.Entry.Laws as entry′
+use Rattle.memory.proofs.Head as head
+use Rattle.memory.proofs.Head.Laws as head′
 
 abbrev pub head-datum : Datum head.the-row
 head-datum = struct-datum head.the-type head′.the-laws head′.the-plain head′.the-copy
 
--- ---- the turns of a loop that counts to n, with what is known after each
-module _ (n : ℕ) (P : ℕ → Type 0) where
-  abbrev pub Upto : Type 0
-  Upto = (i : ℕ) × ((i ≤ n) × P i)
+-- ---- the records by value: each as the tuple of its fields
+abbrev pub entries-value : List Entry → Val
+entries-value t = arrayVal (map (LL.tuple-val entry.the-type entry′.the-laws) (map (entry.the-field .into) t))
 
-  abbrev pub Nearer : Upto → Upto → Type 0
-  Nearer j i = n - j .0 < n - i .0
+abbrev pub entries-values : List Entry → List Val
+entries-values t = entries-value t ∷ []
 
-  pub Nearer-wf : WellFounded Nearer
-  Nearer-wf = InvImage·wf (λ (i : Upto). n - i .0) (Nat·lt-wfRel .wf)
+abbrev pub IsEntries : List Entry → Type 0
+IsEntries t = Is Entries t (entries-values t)
+
+pub entries-tell : Tells Entries (Is Entries) entries-values
+entries-tell t vs is = array-tells R (LL.vals entry.the-type entry′.the-laws) (LL.tells entry.the-type entry′.the-laws) 128 t vs is
+    ∙ ap (λ (us : List Val). arrayVal us ∷ []) (sym (map-map (LL.tuple-val entry.the-type entry′.the-laws) (entry.the-field .into) t))
+
+abbrev pub entries-datum : Datum Entries
+entries-datum = record {
+  val = entries-value;
+  tells = entries-tell;
+  still = refl;
+  lawful = E.entries-datum .lawful;
+  makes = E.entries-datum .makes;
+}
+
+-- ---- as a struct's field
+abbrev entries-field : Field
+entries-field = array-field entry.the-field 128
+
+each-out : (t : List Entry) (us : List Val) → shadow (each (entry.the-field .row .Denot) (entry.the-field .row .own) (map (entry.the-field .into) t) us)
+    → shadow (each Entry (R .own) t us)
+each-out [] [] s = tt
+each-out [] (u ∷ us) s = absurd s
+each-out (e ∷ t) [] s = absurd s
+each-out (e ∷ t) (u ∷ us) s = (s .0, each-out t us (s .1))
+
+pub entries-out : (t : List Entry) → Is (entries-field .row) (entries-field .into t) (entries-values t) → IsEntries t
+entries-out t is = (is .0, ((is .1 .0 .0, sym (length-map t (entry.the-field .into)) ∙ is .1 .0 .1), each-out t (is .0) (is .1 .1)))

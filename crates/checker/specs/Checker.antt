@@ -1,72 +1,98 @@
--- The operations over the line table as records. Each is the operation of the crate below on the two runs that the records are; a table of another length than
--- 128 gives runs of another length, and these are refused.
-use mathlib.Core.List.{List}
+-- The open operations on what callers lend. Each is tests of what is lent, an operation of the crates below on the configuration that it holds, and what is left: a
+-- refusal of the tests leaves everything as it was and names record 0, else the memory is the image of the lines that the operation makes.
+use mathlib.Core.List.{List, [], _∷_, _++_}
 use Prim.Native.Nat.{ℕ}
+use lib.Dec.{leb}
 use lib.IntN.{ℤ}
-use denote.Ref.{RefT, now}
-use denote.Triple.Both.{Both}
+use lib.ListN.{length, drop}
+use Rattle.refusal.specs.Refusal.{numberOf}
+use Rattle.refusal.specs.Outcome.{Outcome, accepted, refused, unless, mapped, Test, test, passing, Told, answered, refusedAt}
+use Rattle.configuration.specs.Configuration.{Line}
+use Rattle.configuration.specs.Made.{Made}
+use Rattle.memory.specs.Memory.{Memory, standingOf, imageOf, sized, wellFormed}
+use Rattle.memory.specs.declared.Entry.{Entry}
+use Rattle.calculus.specs.Calculus.{directStep}
 use Rattle.calculus.specs.declared.Rule.{Rule}
 use Rattle.calculus.specs.declared.Mode.{Mode}
-use Rattle.configuration.specs.Memory.{linesOf}
+use Rattle.problem.specs.Problem.{fileProblem}
+use Rattle.derivation.specs.Derivation.{Confirmation, checkDerivation}
+use Rattle.listing.specs.Listing.{textOf, listingOf}
 use Rattle.listing.specs.Code.{codeOf}
-use Rattle.checker.specs.Records.{Memory, runsOf, recordsOf}
-use Rattle.checker.specs.declared.Line.{Line}
-use Rattle.calculus.specs.Calculus as C
-use Rattle.calculus.specs.declared.Answer as C′
-use Rattle.derivation.specs.Derivation as D
-use Rattle.derivation.specs.declared.Answer as D′
-use Rattle.problem.specs.Problem as P
-use Rattle.problem.specs.declared.Answer as P′
-use Rattle.listing.specs.Listing as L
+use Rattle.checker.specs.declared.StepAnswer.{StepAnswer}
+use Rattle.checker.specs.declared.LineAnswer.{LineAnswer}
+use Rattle.checker.specs.declared.StepAnswer.the-variants as S
+use Rattle.checker.specs.declared.LineAnswer.the-variants as L
 
--- what an operation leaves: what the memory then holds, and what is told
-pub record Left (Told : Type 0) : Type 0 where
+-- ---- what every operation does with what it is lent
+-- "1; 2 lent standing not well formed"
+abbrev pub memoryTests : Memory → List Test
+memoryTests m = test 1 (sized m) ∷ test 2 (wellFormed m) ∷ []
+
+abbrev pub admitted : {A : Type 0} → Memory → Outcome A → Outcome A
+admitted m o = passing (memoryTests m) o
+
+-- what an operation leaves, and what it tells
+pub record Left (A : Type 0) : Type 0 where
   pub memory : Memory
-  pub told : Told
+  pub told : Told A
+
+abbrev pub leftOf : {A : Type 0} → Memory → Told A → Left A
+leftOf m t = record { memory = m; told = t }
+
+-- where m was lent: the image of what the operation makes, or m as it was
+abbrev pub leftBy : {A : Type 0} → Memory → Outcome (Made A) → Left A
+leftBy m (accepted x) = leftOf (imageOf (x .variables) (x .lines)) (x .told)
+leftBy m (refused n) = leftOf m (refusedAt 0 n)
 
 -- ---- taking one step
-abbrev pub stepLeft : Memory → C′.Answer → Left C.Told
-stepLeft m a = record { memory = m; told = C.toldOf a }
+abbrev pub done : Told (Unit {0})
+done = answered tt
 
-abbrev pub stepOn : C.Left → Left C.Told
-stepOn l = record { memory = recordsOf (l .memory); told = l .told }
+abbrev pub stepped : ℕ → List Line → Made (Unit {0})
+stepped n L = record { variables = n; lines = L; told = done }
 
-abbrev pub stepIn : Rule → Mode → List ℕ → List ℕ → ℤ → Memory → Left C.Told
-stepIn r d f g w m = stepOn (C.directStep r d f g w (runsOf m))
+unfoldable pub stepIn : Rule → Mode → List ℕ → List ℕ → ℤ → Memory → Left (Unit {0})
+stepIn r d f g w m = leftBy m (admitted m (mapped (stepped (m .variables)) (directStep r d f g w (m .variables) (standingOf m))))
 
 -- ---- checking a derivation
-abbrev pub checkLeft : Memory → D′.Answer → Left D.Told
-checkLeft m a = record { memory = m; told = D.toldOf a }
+unfoldable pub checkIn : List ℕ → Memory → Left Confirmation
+checkIn s m = leftBy m (admitted m (accepted (checkDerivation s (m .variables) (standingOf m))))
 
-abbrev pub checkOn : D.Left → Left D.Told
-checkOn l = record { memory = recordsOf (l .memory); told = l .told }
-
-abbrev pub checkIn : List ℕ → Memory → Left D.Told
-checkIn s m = checkOn (D.checkDerivation s (runsOf m))
-
--- ---- filing a problem, in lent areas that hold nothing yet
-abbrev pub lent : List ℕ → List Line → Memory
+-- ---- filing a problem, in lent areas that hold nothing yet: lengths alone are tested. "1 .. nothing is written, the record named is 0, n and line count are 0."
+abbrev pub lent : List ℕ → List Entry → Memory
 lent ts t = record { variables = 0; lines = 0; terms = ts; table = t }
 
-abbrev pub lentBefore : {A B : Type 0} → Both (RefT (List ℕ)) A → Both (RefT (List Line)) B → Memory
-lentBefore ts t = lent (now (ts .entry)) (now (t .entry))
+unfoldable pub fileIn : List ℕ → Memory → Left (Unit {0})
+fileIn s m = leftBy (lent (m .terms) (m .table)) (unless (sized m) 1 (accepted (fileProblem s)))
 
-abbrev pub fileLeft : Memory → P′.Answer → Left P.Told
-fileLeft m a = record { memory = m; told = P.toldOf a }
+-- ---- writing one line into a lent area of bytes. "1, 2, 17 the line number is above the count, 14 the text is longer than the area; all name record 0. Success gives
+-- the length and leaves bytes after it as they were; a refusal writes nothing."
+pub record Written : Type 0 where
+  pub area : List ℕ
+  pub told : Told ℕ
 
-abbrev pub fileOn : P.Left → Left P.Told
-fileOn l = record { memory = recordsOf (l .memory); told = l .told }
+abbrev pub writtenBy : List ℕ → Outcome (List ℕ) → Written
+writtenBy area (accepted text) = record { area = text ++ drop (length text) area; told = answered (length text) }
+writtenBy area (refused n) = record { area = area; told = refusedAt 0 n }
 
-abbrev pub fileIn : List ℕ → Memory → Left P.Told
-fileIn s m = fileOn (P.fileProblem s (runsOf m))
+abbrev pub fitting : List ℕ → List ℕ → Outcome (List ℕ)
+fitting area text = unless (leb (length text) (length area)) 14 (accepted text)
 
--- ---- writing one line into a lent area of bytes
-abbrev pub writeIn : ℕ → Memory → List ℕ → L.Left
-writeIn number m area = L.writeLine number (runsOf m) area
+unfoldable pub writeIn : ℕ → Memory → List ℕ → Written
+writeIn number m area = writtenBy area (admitted m (unless (leb number (m .lines)) 17 (fitting area (textOf number (m .variables) (standingOf m)))))
 
--- ---- the whole listing, and its code
+-- ---- the whole listing of what a memory holds, and its code
 abbrev pub listedIn : Memory → List ℕ
-listedIn m = L.listed (runsOf m)
+listedIn m = listingOf (m .variables) (standingOf m)
 
 abbrev pub codeIn : Memory → ℕ
-codeIn m = codeOf (m .variables) (linesOf (runsOf m))
+codeIn m = codeOf (m .variables) (standingOf m)
+
+-- ---- the paper's words for the answers
+abbrev pub toldOfStep : StepAnswer → Told (Unit {0})
+toldOfStep S.Taken = done
+toldOfStep (S.Refused k reason) = refusedAt k (numberOf reason)
+
+abbrev pub toldOfLine : LineAnswer → Told ℕ
+toldOfLine (L.Written n) = answered n
+toldOfLine (L.Refused k reason) = refusedAt k (numberOf reason)

@@ -1,34 +1,42 @@
--- Demand 3, of the records: nobody who writes derivations can change the cost of a single assignment. One theorem over any list of calls, of any length: a
--- call is a direct step or a check of a derivation, and each gets the memory that the call before it left. It speaks of `stepIn` and `checkIn`.
-use mathlib.Core.Path.{_≡_, sym, ap, subst, _∙_}
+-- Demand 3: nobody who writes derivations can change the cost of a single assignment. One theorem over any list of calls, of any length: a call is a direct step or a
+-- check of a derivation, and each gets the memory that the call before it left. It speaks of `stepIn` and `checkIn`, which the promises of the open operations equate with.
+use mathlib.Core.Path.{_≡_, refl, sym, ap, subst, _∙_}
 use mathlib.Core.List.{List, [], _∷_}
 use Prim.Native.Nat.{ℕ}
 use lib.Dec.{T}
 use lib.IntN.{ℤ}
 use lib.Signed.{_≤ℤ_}
 use lib.ListN.{take}
-use Rattle.configuration.specs.Configuration.{cost}
-use Rattle.configuration.specs.Memory.{linesOf}
-use Rattle.derivation.specs.Derivation.{confirmed}
-use Rattle.derivation.specs.CostRule.{Call, stepping, checking}
-use Rattle.checker.specs.Records.{Memory, runsOf, recordsOf, wellFormedIn}
-use Rattle.checker.specs.RecordsLaws.{well-back, well-records}
-use Rattle.checker.specs.Checker.{stepIn, checkIn}
-use Rattle.configuration.specs.Memory as M
-use Rattle.derivation.specs.CostRule as D
+use Rattle.refusal.specs.Outcome.{Outcome, accepted, refused, mapped}
+use Rattle.configuration.specs.Configuration.{Line, cost, isConfiguration}
+use Rattle.memory.specs.Memory.{Memory, standingOf, imageOf, wellFormed}
+use Rattle.memory.specs.MemoryLaws.{there-and-back, image-well, well-configuration}
+use Rattle.calculus.specs.Calculus.{directStep}
+use Rattle.calculus.specs.CalculusLaws.{direct-keeps, direct-cost}
+use Rattle.calculus.specs.declared.Rule.{Rule}
+use Rattle.calculus.specs.declared.Mode.{Mode}
+use Rattle.derivation.specs.Derivation.{Confirmation, confirmed, checkDerivation}
+use Rattle.derivation.specs.DerivationLaws.{check-variables, check-configuration, check-cost, confirmed-bound}
+use Rattle.checker.specs.Checker.{Left, leftBy, stepped, stepIn, checkIn}
+use Rattle.checker.specs.CheckerLaws.{step-well, check-well}
 
--- what an assignment costs in the configuration that the records hold
+-- any rule, mode, operands and amount, right or wrong; any bytes
+pub data Call : Type 0 where
+  stepping : Rule → Mode → List ℕ → List ℕ → ℤ → Call
+  checking : List ℕ → Call
+
+-- what an assignment costs in the configuration that a memory holds
 abbrev pub costIn : Memory → ℕ → ℤ
-costIn m α = cost (linesOf (runsOf m)) α
+costIn m α = cost (standingOf m) α
 
-abbrev pub leftBy : Call → Memory → Memory
-leftBy (stepping r d f g w) m = stepIn r d f g w m .memory
-leftBy (checking s) m = checkIn s m .memory
+abbrev pub memoryBy : Call → Memory → Memory
+memoryBy (stepping r d f g w) m = stepIn r d f g w m .memory
+memoryBy (checking s) m = checkIn s m .memory
 
 -- the memory is well formed, over as many variables, and every assignment costs what it cost at the start. An assignment of n variables is a mask
 -- below 2^n; this holds for every mask.
 pub record Kept (start m : Memory) : Type 0 where
-  pub well : T (wellFormedIn m)
+  pub well : T (wellFormed m)
   pub variables : m .variables ≡ start .variables
   pub costs : (α : ℕ) → costIn m α ≡ costIn start α
 
@@ -42,25 +50,52 @@ Safe start m (checking s) =
 
 abbrev pub AllSafe : Memory → Memory → List Call → Type 0
 AllSafe start m [] = Unit {0}
-AllSafe start m (c ∷ cs) = Safe start m c × AllSafe start (leftBy c m) cs
+AllSafe start m (c ∷ cs) = Safe start m c × AllSafe start (memoryBy c m) cs
 
--- ---- the rule, by the rule of the two runs: what is well formed there is the runs of its records
-kept : (start : Memory) (x : M.Memory) → D.Kept (runsOf start) x → Kept start (recordsOf x)
-kept start x k = record {
-  well = well-records x (k .well);
-  variables = k .variables;
-  costs = λ α. ap (λ (y : M.Memory). cost (linesOf y) α) (well-back x (k .well)) ∙ k .costs α;
-}
+-- ---- the rule
+module _ (start m : Memory) (k : Kept start m) where
+  abbrev n : ℕ
+  n = m .variables
 
-safe : (start m : Memory) (c : Call) → D.Safe (runsOf start) (runsOf m) c → Safe start m c × (runsOf (leftBy c m) ≡ D.leftBy c (runsOf m))
-safe start m (stepping r d f g w) k = (kept start _ k, well-back _ (k .well))
-safe start m (checking s) h = ((kept start _ (h .0), (λ K. kept start _ (h .1 .0 K), h .1 .1)), well-back _ (h .0 .well))
+  abbrev L : List Line
+  L = standingOf m
 
-all-safe : (start m : Memory) (cs : List Call) → D.AllSafe (runsOf start) (runsOf m) cs → AllSafe start m cs
-all-safe start m [] h = tt
-all-safe start m (c ∷ cs) h =
-    let s : Safe start m c × (runsOf (leftBy c m) ≡ D.leftBy c (runsOf m)) = safe start m c (h .0) in
-    (s .0, all-safe start (leftBy c m) cs (subst (λ (x : M.Memory). D.AllSafe (runsOf start) x cs) (sym (s .1)) (h .1)))
+  -- the image of a configuration of which no cost is another
+  image-kept : (N : List Line) → T (isConfiguration n N) → ((α : ℕ) → cost N α ≡ costIn m α) → Kept start (imageOf n N)
+  image-kept N h e = record {
+    well = image-well n N h;
+    variables = k .variables;
+    costs = λ α. ap (λ (M : List Line). cost M α) (there-and-back n N h) ∙ e α ∙ k .costs α;
+  }
 
-pub cost-rule : (m : Memory) → T (wellFormedIn m) → (cs : List Call) → AllSafe m m cs
-cost-rule m h cs = all-safe m m cs (D.cost-rule (runsOf m) h cs)
+  step-kept : (r : Rule) (d : Mode) (f g : List ℕ) (w : ℤ) → Kept start (stepIn r d f g w m .memory)
+  step-kept r d f g w = subst (λ (l : Left (Unit {0})). Kept start (l .memory)) (sym (step-well r d f g w m (k .well))) (go (directStep r d f g w n L) refl)
+    where
+      go : (o : Outcome (List Line)) → directStep r d f g w n L ≡ o → Kept start (leftBy m (mapped (stepped n) o) .memory)
+      go (accepted N) e = image-kept N (direct-keeps r d f g w n L N e (well-configuration m (k .well))) (direct-cost r d f g w n L N e)
+      go (refused i) e = k
+
+  check-kept : (s : List ℕ) → Kept start (checkIn s m .memory)
+  check-kept s =
+      subst (λ (x : Memory). Kept start x) (sym (ap (λ (l : Left Confirmation). l .memory) (check-well s m (k .well)) ∙ ap (λ (i : ℕ). imageOf i (checkDerivation s n L .lines)) (check-variables s n L)))
+      (image-kept (checkDerivation s n L .lines) (check-configuration s n L (well-configuration m (k .well))) (check-cost s n L))
+
+  check-bound : (s : List ℕ) (w : ℤ) (D : ℕ) → checkIn s m .told ≡ confirmed w D → (α : ℕ) → w ≤ℤ costIn start α
+  check-bound s w D e α =
+      subst (λ (z : ℤ). w ≤ℤ z) (k .costs α)
+      (confirmed-bound s n L w D (sym (ap (λ (l : Left Confirmation). l .told) (check-well s m (k .well))) ∙ e) (well-configuration m (k .well)) α)
+
+  safe : (c : Call) → Safe start m c
+  safe (stepping r d f g w) = step-kept r d f g w
+  safe (checking s) = (check-kept s, (λ K. check-kept (take K s), check-bound s))
+
+  kept-by : (c : Call) → Kept start (memoryBy c m)
+  kept-by (stepping r d f g w) = step-kept r d f g w
+  kept-by (checking s) = check-kept s
+
+all-safe : (start m : Memory) (cs : List Call) → Kept start m → AllSafe start m cs
+all-safe start m [] k = tt
+all-safe start m (c ∷ cs) k = (safe start m k c, all-safe start (memoryBy c m) cs (kept-by start m k c))
+
+pub cost-rule : (m : Memory) → T (wellFormed m) → (cs : List Call) → AllSafe m m cs
+cost-rule m h cs = all-safe m m cs (record { well = h; variables = refl; costs = λ α. refl })

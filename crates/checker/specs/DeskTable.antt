@@ -1,5 +1,5 @@
--- The twelve starred rows of document 01's desk table, of the records, as one theorem. Each row speaks of the definitions that the promises of the open
--- operations equate with: `clauseOf` (Polynomial::clause), and over a line table of records `stepIn` and `checkIn`.
+-- The twelve starred rows of document 01's desk table, as one theorem. Each row speaks of the definitions that the promises of the open operations equate with: `clauseOf`
+-- (Polynomial::clause), and of a lent memory `stepIn` and `checkIn`.
 use mathlib.Core.Path.{_≡_, refl}
 use mathlib.Core.List.{List, [], _∷_}
 use Prim.Native.Nat.{ℕ}
@@ -7,20 +7,20 @@ use lib.IntN.{ℤ, pos, negsuc}
 use lib.Count.{ones}
 use Rattle.run.specs.Run.{toggleBy, normalBy, sorted}
 use Rattle.term.specs.Term.{before}
-use Rattle.polynomial.specs.Polynomial.{ZERO, ONE, unions, factors, clauseOf, orderOf}
+use Rattle.refusal.specs.Outcome.{Told, refusedAt}
+use Rattle.mask.specs.Mask.{unions}
+use Rattle.polynomial.specs.Polynomial.{ZERO, ONE, factors, clauseOf, orderOf}
 use Rattle.configuration.specs.Configuration.{Line, line, total, fold, add, addAll, negated, below, lineFits, linesFit, weightsFit, anyNegative}
-use Rattle.configuration.specs.Memory.{imageOf, readLines, rows, weightsOf, countsOf, zeros, zeroWeights, laidOut}
-use Rattle.configuration.specs.Replacement.{within}
-use Rattle.calculus.specs.Calculus.{covers, allShort, step, judged}
+use Rattle.configuration.specs.Limits.{within}
+use Rattle.memory.specs.Memory.{Memory, imageOf, readLines, termAreaOf, entriesOf, alike}
+use Rattle.calculus.specs.Calculus.{covers, allShort, step, directStep}
 use Rattle.calculus.specs.declared.Rule.the-variants.{Sum, Prod}
 use Rattle.calculus.specs.declared.Mode.the-variants.{Plain, Signed}
+use Rattle.record.specs.Letters.{letterN, letterZ, letterB}
 use Rattle.record.specs.Record.{littleEndian}
 use Rattle.walk.specs.Walk.{walk}
-use Rattle.derivation.specs.Derivation.{onRecord, degreeMax, degreeIn, checkDerivation}
-use Rattle.checker.specs.Records.{Memory, tableOf, recordsOf}
-use Rattle.checker.specs.Checker.{Left, stepIn, checkIn}
-use Rattle.calculus.specs.Calculus as C
-use Rattle.derivation.specs.Derivation as D
+use Rattle.derivation.specs.Derivation.{onRecord, degreeMax, degreeIn, Confirmation, confirmed, checkDerivation}
+use Rattle.checker.specs.Checker.{Left, leftOf, done, stepIn, checkIn}
 
 -- ---- polynomials of the table
 abbrev x1 : List ℕ
@@ -34,18 +34,18 @@ x1x2 = 3 ∷ []
 
 -- two variables, and the lines in the written order
 abbrev holding : List Line → Memory
-holding L = recordsOf (imageOf 128 2 L)
+holding L = imageOf 2 L
 
 -- ---- what a step or a claim leaves
-abbrev makes : List Line → Left C.Told
-makes L = record { memory = holding L; told = C.done }
+abbrev makes : List Line → Left (Unit {0})
+makes L = leftOf (holding L) done
 
-abbrev refuses : List Line → ℕ → Left C.Told
-refuses L n = record { memory = holding L; told = C.refusedAt 0 n }
+abbrev refuses : List Line → ℕ → Left (Unit {0})
+refuses L n = leftOf (holding L) (refusedAt 0 n)
 
 -- a derivation in a mode that makes a claim and nothing else: the mode's letter, B, eight bytes
 abbrev claiming : ℕ → List ℕ → List ℕ
-claiming mode bytes = mode ∷ 66 ∷ bytes
+claiming mode bytes = mode ∷ letterB ∷ bytes
 
 abbrev number : ℕ → List ℕ
 number k = k ∷ 0 ∷ 0 ∷ 0 ∷ 0 ∷ 0 ∷ 0 ∷ 0 ∷ []
@@ -54,8 +54,8 @@ number k = k ∷ 0 ∷ 0 ∷ 0 ∷ 0 ∷ 0 ∷ 0 ∷ 0 ∷ []
 abbrev minusOne : List ℕ
 minusOne = 255 ∷ 255 ∷ 255 ∷ 255 ∷ 255 ∷ 255 ∷ 255 ∷ 255 ∷ []
 
-abbrev answers : List Line → D.Told → Left D.Told
-answers L t = record { memory = holding L; told = t }
+abbrev answers : List Line → Told Confirmation → Left Confirmation
+answers L t = leftOf (holding L) t
 
 abbrev million² : ℕ
 million² = 1000000000000
@@ -81,13 +81,13 @@ pub record DeskTable : Type 0 where
       × (stepIn Sum Plain x1 x1 (pos 1) (holding (line x1 (pos 2) ∷ [])) ≡ makes (line x1 (pos 2) ∷ []))
   -- empty standing, signed PROD of x1 by x2, 1: x1 at -1, x1*x2 at 1, x1*x2 + x1 at 1; claim 0 refused 12
   pub row9 : (stepIn Prod Signed x1 x2 (pos 1) (holding []) ≡ makes (line x1x2 (pos 1) ∷ line (3 ∷ 1 ∷ []) (pos 1) ∷ line x1 (negsuc 0) ∷ []))
-      × (checkIn (claiming 90 (number 0)) (holding (line x1x2 (pos 1) ∷ line (3 ∷ 1 ∷ []) (pos 1) ∷ line x1 (negsuc 0) ∷ []))
-      ≡ answers (line x1x2 (pos 1) ∷ line (3 ∷ 1 ∷ []) (pos 1) ∷ line x1 (negsuc 0) ∷ []) (D.refusedAt 2 12))
+      × (checkIn (claiming letterZ (number 0)) (holding (line x1x2 (pos 1) ∷ line (3 ∷ 1 ∷ []) (pos 1) ∷ line x1 (negsuc 0) ∷ []))
+      ≡ answers (line x1x2 (pos 1) ∷ line (3 ∷ 1 ∷ []) (pos 1) ∷ line x1 (negsuc 0) ∷ []) (refusedAt 2 12))
   -- 1 at 2, claims 2, 3, 0, -1: confirmed, 13, confirmed, 8
-  pub row10 : (checkIn (claiming 78 (number 2)) (holding (line ONE (pos 2) ∷ [])) ≡ answers (line ONE (pos 2) ∷ []) (D.confirmed (pos 2) 0))
-      × (checkIn (claiming 78 (number 3)) (holding (line ONE (pos 2) ∷ [])) ≡ answers (line ONE (pos 2) ∷ []) (D.refusedAt 2 13))
-      × (checkIn (claiming 78 (number 0)) (holding (line ONE (pos 2) ∷ [])) ≡ answers (line ONE (pos 2) ∷ []) (D.confirmed (pos 0) 0))
-      × (checkIn (claiming 78 minusOne) (holding (line ONE (pos 2) ∷ [])) ≡ answers (line ONE (pos 2) ∷ []) (D.refusedAt 2 8))
+  pub row10 : (checkIn (claiming letterN (number 2)) (holding (line ONE (pos 2) ∷ [])) ≡ answers (line ONE (pos 2) ∷ []) (confirmed (pos 2) 0))
+      × (checkIn (claiming letterN (number 3)) (holding (line ONE (pos 2) ∷ [])) ≡ answers (line ONE (pos 2) ∷ []) (refusedAt 2 13))
+      × (checkIn (claiming letterN (number 0)) (holding (line ONE (pos 2) ∷ [])) ≡ answers (line ONE (pos 2) ∷ []) (confirmed (pos 0) 0))
+      × (checkIn (claiming letterN minusOne) (holding (line ONE (pos 2) ∷ [])) ≡ answers (line ONE (pos 2) ∷ []) (refusedAt 2 8))
   -- empty standing, signed SUM of x1 and x2, 10^12: refused 11
   pub row11 : stepIn Sum Signed x1 x2 (pos million²) (holding []) ≡ refuses [] 11
   -- the same with PROD: accepted
@@ -96,7 +96,7 @@ pub record DeskTable : Type 0 where
 
 -- ---- every row holds: all of it is computed
 pub desk-table : DeskTable
-unfolding factors normalBy toggleBy unions before ones below sorted orderOf linesFit lineFits weightsFit anyNegative total add fold addAll negated within covers allShort step judged littleEndian walk onRecord degreeIn degreeMax checkDerivation readLines rows weightsOf countsOf zeros zeroWeights laidOut tableOf
+unfolding factors normalBy toggleBy unions before ones below sorted orderOf linesFit lineFits weightsFit anyNegative total add fold addAll negated within covers allShort step directStep littleEndian walk onRecord degreeIn degreeMax checkDerivation readLines termAreaOf entriesOf alike stepIn checkIn
 desk-table = record {
   row1 = refl;
   row2 = refl;

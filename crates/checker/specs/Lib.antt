@@ -1,10 +1,10 @@
 pub mod Checker
-pub mod Records
-pub mod RecordsLaws
-pub mod CostRule
-pub mod OneListing
-pub mod LeftForm
+pub mod Lent
+pub mod CheckerLaws
 pub mod Lengths
-pub mod Refused
 pub mod StepTests
+pub mod Refused
+pub mod OneListing
+pub mod CostRule
+pub mod LeftForm
 pub mod DeskTable

@@ -1,55 +1,67 @@
--- A step that the rules allow is taken (demand 2), as callers see it: of lent records, a step is taken and leaves the folded lines exactly where no test of document
--- 01 fails; otherwise it names record 0 and the number of the first test that fails, and everything that was lent is as it was.
-use mathlib.Core.Path.{_≡_, refl, ap, _∙_}
-use mathlib.Core.List.{List}
+-- A step that the rules allow is taken (demand 2): of any lent memory, a step is taken and leaves the folded lines exactly where no test of document 01 fails; otherwise it
+-- names record 0 and the number of the first test that fails, and everything that was lent is as it was.
+use mathlib.Core.Path.{_≡_, refl, sym, ap, _∙_}
+use mathlib.Core.List.{List, _++_}
 use Prim.Native.Nat.{ℕ}
-use native.Mathlib.Omega.{arith}
 use lib.IntN.{ℤ}
-use Rattle.configuration.specs.Configuration.{addAll}
-use Rattle.configuration.specs.Memory.{linesOf, imageOf}
-use Rattle.configuration.specs.Replacement.{Step, taken, refused}
-use Rattle.calculus.specs.Calculus.{Test, Told, done, refusedAt, changes, leaves, judged}
-use Rattle.calculus.specs.Tests.{AllPassed, FirstFailed, directTests}
-use Rattle.calculus.specs.TestsLaws.{Decided, direct-decided}
+use Rattle.refusal.specs.Outcome.{Outcome, accepted, refused, mapped, Test, refusedAt}
+use Rattle.refusal.specs.Tests.{AllPassed, FirstFailed, Decided}
+use Rattle.refusal.specs.TestsLaws.{decided}
+use Rattle.configuration.specs.Configuration.{Line, addAll}
+use Rattle.configuration.specs.Limits.{within}
+use Rattle.memory.specs.Memory.{Memory, standingOf, imageOf}
+use Rattle.calculus.specs.Calculus.{changes, step, directStep}
+use Rattle.calculus.specs.Tests.{directTests}
 use Rattle.calculus.specs.declared.Rule.{Rule}
 use Rattle.calculus.specs.declared.Mode.{Mode}
-use Rattle.checker.specs.Records.{Memory, runsOf, recordsOf}
-use Rattle.checker.specs.RecordsLaws.{records-runs}
-use Rattle.checker.specs.Checker.{Left, stepOn, stepIn}
+use Rattle.checker.specs.Checker.{memoryTests, admitted, Left, leftOf, leftBy, done, stepped, stepIn}
+use Rattle.checker.specs.CheckerLaws.{not-refusal, same-refusal, step-admitted}
 
 module _ (r : Rule) (d : Mode) (f g : List ℕ) (w : ℤ) (m : Memory) where
   abbrev tests : List Test
-  tests = directTests r d f g w (runsOf m)
+  tests = memoryTests m ++ directTests r d f g w (m .variables) (standingOf m)
 
-  -- the memory with the changes of the rule folded in
+  -- the lines with the changes of the rule, and the memory that has them
+  abbrev foldedLines : List Line
+  foldedLines = addAll (changes r f g w) (standingOf m)
+
   abbrev folded : Memory
-  folded = recordsOf (imageOf 128 (m .variables) (addAll (changes r f g w) (linesOf (runsOf m))))
+  folded = imageOf (m .variables) foldedLines
 
   pub record StepDecided : Type 0 where
-    pub if-passed : AllPassed tests → stepIn r d f g w m ≡ record { memory = folded; told = done }
-    pub if-failed : (n : ℕ) → FirstFailed n tests → stepIn r d f g w m ≡ record { memory = m; told = refusedAt 0 n }
+    pub if-passed : AllPassed tests → stepIn r d f g w m ≡ leftOf folded done
+    pub if-failed : (n : ℕ) → FirstFailed n tests → stepIn r d f g w m ≡ leftOf m (refusedAt 0 n)
     pub if-taken : stepIn r d f g w m .told ≡ done → AllPassed tests
     pub if-refused : (n : ℕ) → stepIn r d f g w m .told ≡ refusedAt 0 n → FirstFailed n tests
 
-  abbrev onto : Step → Left Told
-  onto s = stepOn (leaves (runsOf m) s)
+  abbrev judged : Outcome (List Line)
+  judged = admitted m (directStep r d f g w (m .variables) (standingOf m))
+
+  abbrev onto : Outcome (List Line) → Left (Unit {0})
+  onto o = leftBy m (mapped (stepped (m .variables)) o)
+
+  judged-decided : Decided tests foldedLines judged
+  unfolding directStep step within
+  judged-decided = decided tests foldedLines
 
   pub step-decided : StepDecided
-  step-decided =
-      let x : Decided tests (addAll (changes r f g w) (linesOf (runsOf m))) (judged r d f g w (runsOf m)) = direct-decided r d f g w (runsOf m) in
-      record {
-        if-passed = λ a. ap onto (x .if-passed a);
-        if-failed = λ n h. ap onto (x .if-failed n h) ∙ ap (λ (l : Memory). record { memory = l; told = refusedAt 0 n }) (records-runs m);
-        if-taken = λ e. accepted (judged r d f g w (runsOf m)) refl e x;
-        if-refused = λ n e. turned (judged r d f g w (runsOf m)) n refl e x;
-      }
+  step-decided = record {
+    if-passed = λ a. is ∙ ap onto (judged-decided .if-passed a);
+    if-failed = λ n h. is ∙ ap onto (judged-decided .if-failed n h);
+    if-taken = λ e. taken judged refl (told ∙ e);
+    if-refused = λ n e. turned judged n refl (told ∙ e);
+  }
     where
-      accepted : (s : Step) → judged r d f g w (runsOf m) ≡ s → onto s .told ≡ done
-          → Decided tests (addAll (changes r f g w) (linesOf (runsOf m))) (judged r d f g w (runsOf m)) → AllPassed tests
-      accepted (taken M) k e x = x .if-taken M k .0
-      accepted (refused n) k e x = let z : _≡_ {A = ℕ} 0 1 = cc in let y : ⊥ = omega arith in absurd y
+      is : stepIn r d f g w m ≡ onto judged
+      is = step-admitted r d f g w m
 
-      turned : (s : Step) (n : ℕ) → judged r d f g w (runsOf m) ≡ s → onto s .told ≡ refusedAt 0 n
-          → Decided tests (addAll (changes r f g w) (linesOf (runsOf m))) (judged r d f g w (runsOf m)) → FirstFailed n tests
-      turned (taken M) n k e x = let z : _≡_ {A = ℕ} 0 1 = cc in let y : ⊥ = omega arith in absurd y
-      turned (refused i) n k e x = let z : i ≡ n = cc in x .if-refused n (k ∙ ap refused z)
+      told : onto judged .told ≡ stepIn r d f g w m .told
+      told = sym (ap (λ (l : Left (Unit {0})). l .told) is)
+
+      taken : (o : Outcome (List Line)) → judged ≡ o → onto o .told ≡ done → AllPassed tests
+      taken (accepted M) k e = judged-decided .if-taken M k .0
+      taken (refused n) k e = absurd (not-refusal (sym e))
+
+      turned : (o : Outcome (List Line)) (n : ℕ) → judged ≡ o → onto o .told ≡ refusedAt 0 n → FirstFailed n tests
+      turned (accepted M) n k e = absurd (not-refusal e)
+      turned (refused i) n k e = judged-decided .if-refused n (k ∙ ap refused (same-refusal e .1))

@@ -1,84 +1,106 @@
-// The operations as callers use them, over the line table as a lent run of records.
-pub mod by_value;
-mod check;
-mod file;
-mod step;
-mod table;
-pub mod whole;
-mod write;
+// The operations as callers use them. Each tests what it is lent, reads its lines, works on them, and writes back what is left.
+mod admission;
+mod checking;
+mod filing;
+mod stepping;
+mod writing;
 
 use calculus::Mode;
 use calculus::Rule;
-use calculus::Stepped;
-use configuration::Head;
-use table::load;
-use table::store;
+use derivation::CheckAnswer;
+use memory::Entry;
+use memory::Head;
+use memory::entries::load;
+use memory::entries::store;
+use problem::FilingAnswer;
+use refusal::Reason;
 ghost use mathlib.Core.Path.{_≡_};
-ghost use Rattle.listing.specs.Listing.{toldOf};
-ghost use Rattle.checker.specs.Records.{memoryBefore, memoryAfter};
-ghost use Rattle.checker.specs.Checker.{stepLeft, stepIn, checkLeft, checkIn, lentBefore, fileLeft, fileIn, writeIn};
+ghost use Rattle.problem.specs.Problem.{toldOfFiling};
+ghost use Rattle.derivation.specs.Derivation.{toldOfCheck};
+ghost use Rattle.checker.specs.Lent.{lentBefore, lentAfter};
+ghost use Rattle.checker.specs.Checker.{leftOf, lent, stepIn, checkIn, fileIn, writeIn, toldOfStep, toldOfLine};
 
-// One line of the table: a weight and a count of terms.
-pub struct Line {
-    pub weight: i64,
-    pub count: u32,
+// What a step answers. A refusal names record 0, and its reason.
+pub enum StepAnswer {
+    Taken,
+    Refused(u64, Reason),
+}
+
+// What a step leaves: the head, and the answer.
+pub struct Stepped {
+    pub head: Head,
+    pub answer: StepAnswer,
+}
+
+// What a check leaves.
+pub struct Checked {
+    pub head: Head,
+    pub answer: CheckAnswer,
+}
+
+// What a filing leaves.
+pub struct Filed {
+    pub head: Head,
+    pub answer: FilingAnswer,
+}
+
+// What writing a line answers: the length of its text. A refusal names record 0, and its reason.
+pub enum LineAnswer {
+    Written(usize),
+    Refused(u64, Reason),
 }
 
 // Takes one step directly, in lent areas of any lengths and contents, with operands of any length and content.
 pub fn take_step(
     head: Head,
     terms: &mut [u32],
-    lines: &mut [Line],
+    table: &mut [Entry],
     rule: Rule,
     mode: Mode,
     f: &[u32],
     g: &[u32],
     amount: i64,
 ) -> Stepped
-    ensures { λ r. ⌜ stepLeft (memoryAfter (r .head) terms lines) (r .answer)
-        ≡ stepIn rule mode (now (f .entry)) (now (g .entry)) amount (memoryBefore head terms lines) ⌝ }
+    ensures { λ r. ⌜ leftOf (lentAfter (r .head) terms table) (toldOfStep (r .answer))
+        ≡ stepIn rule mode (now (f .entry)) (now (g .entry)) amount (lentBefore head terms table) ⌝ }
 {
-    if lines.len() != 128 {
-        return step::unfit(head);
+    if table.len() != 128 {
+        return stepping::unfit(head);
     }
-    let table = load(lines);
-    let done = step::on_table(head, terms, table, rule, mode, f, g, amount);
-    let left = done.table;
-    store(lines, left);
+    let entries = load(table);
+    let done = stepping::on_entries(head, terms, entries, rule, mode, f, g, amount);
+    let left = done.entries;
+    store(table, left);
     done.stepped
 }
 
 // Checks the derivation that the bytes are, in lent areas of any lengths and contents.
-pub fn check_derivation(
-    bytes: &[u8],
-    head: Head,
-    terms: &mut [u32],
-    lines: &mut [Line],
-) -> derivation::Report
-    ensures { λ r. ⌜ checkLeft (memoryAfter (r .head) terms lines) (r .answer) ≡ checkIn (now (bytes .entry)) (memoryBefore head terms lines) ⌝ }
+pub fn check_derivation(bytes: &[u8], head: Head, terms: &mut [u32], table: &mut [Entry]) -> Checked
+    ensures { λ r. ⌜ leftOf (lentAfter (r .head) terms table) (toldOfCheck (r .answer)) ≡ checkIn (now (bytes .entry)) (lentBefore head terms table) ⌝ }
 {
-    if lines.len() != 128 {
-        return check::unfit(head);
+    if table.len() != 128 {
+        return checking::unfit(head);
     }
-    let table = load(lines);
-    let done = check::on_table(bytes, head, terms, table);
-    let left = done.table;
-    store(lines, left);
-    done.report
+    let entries = load(table);
+    let done = checking::on_entries(bytes, head, terms, entries);
+    let left = done.entries;
+    store(table, left);
+    done.checked
 }
 
 // Files the problem that the bytes are, in lent areas of any lengths and contents.
-pub fn file_problem(bytes: &[u8], terms: &mut [u32], lines: &mut [Line]) -> problem::Report
-    ensures { λ r. ⌜ fileLeft (memoryAfter (r .head) terms lines) (r .answer) ≡ fileIn (now (bytes .entry)) (lentBefore terms lines) ⌝ }
+pub fn file_problem(bytes: &[u8], terms: &mut [u32], table: &mut [Entry]) -> Filed
+    ensures { λ r. ⌜ leftOf (lentAfter (r .head) terms table) (toldOfFiling (r .answer))
+        ≡ fileIn (now (bytes .entry)) (lent (now (terms .entry)) (now (table .entry))) ⌝ }
 {
-    if lines.len() != 128 {
-        return file::unfit();
+    if table.len() != 128 {
+        return filing::unfit();
     }
-    let table = load(lines);
-    let done = file::on_table(bytes, terms, table);
-    let left = done.table;
-    store(lines, left);
-    done.report
+    let entries = load(table);
+    let done = filing::on_entries(bytes, terms, entries);
+    let left = done.entries;
+    store(table, left);
+    done.filed
 }
 
 // Writes the line of a number at the front of a lent area, from lent areas of any lengths and contents.
@@ -86,14 +108,14 @@ pub fn write_line(
     area: &mut [u8],
     head: Head,
     terms: &[u32],
-    lines: &[Line],
+    table: &[Entry],
     number: usize,
-) -> listing::Answer
-    ensures { λ r. ⌜ record { area = now (area .exit); told = toldOf r } ≡ writeIn number (memoryBefore head terms lines) (now (area .entry)) ⌝ }
+) -> LineAnswer
+    ensures { λ r. ⌜ record { area = now (area .exit); told = toldOfLine r } ≡ writeIn number (lentBefore head terms table) (now (area .entry)) ⌝ }
 {
-    if lines.len() != 128 {
-        return write::unfit();
+    if table.len() != 128 {
+        return writing::unfit();
     }
-    let table = load(lines);
-    write::from_table(area, head, terms, table, number)
+    let entries = load(table);
+    writing::from_entries(area, head, terms, entries, number)
 }

@@ -1,7 +1,3 @@
-pub mod Areas
-pub mod Settles
-pub mod Indexes
 pub mod Forms
-pub mod Tables
-pub mod Searches
-pub mod Replacements
+pub mod Tests
+pub mod Weights

@@ -75,9 +75,9 @@ Behind f [] = Unit {0}
 Behind f (line g u ∷ L) = (orderOf f g ≡ Earlier) × Behind f L
 
 -- in strict order, neither a polynomial 0 nor a weight 0
-abbrev pub Ordered : List Line → Type 0
-Ordered [] = Unit {0}
-Ordered (line f w ∷ L) = T (some f) × (T (not (isZero w)) × (Behind f L × Ordered L))
+abbrev pub InOrder : List Line → Type 0
+InOrder [] = Unit {0}
+InOrder (line f w ∷ L) = T (some f) × (T (not (isZero w)) × (Behind f L × InOrder L))
 
 -- what holds of the polynomial of each line
 abbrev pub Every : (List ℕ → Type 0) → List Line → Type 0
@@ -116,6 +116,10 @@ linesFit n (line f w ∷ line g u ∷ L) = lineFits n (line f w) && (byOrder (or
 unfoldable pub weightsFit : List Line → Bool
 weightsFit [] = true
 weightsFit (line f w ∷ L) = inRange w && weightsFit L
+
+-- what can be held, of n variables: at most 128 lines, each of which fits, in order, every weight in range
+abbrev pub isConfiguration : ℕ → List Line → Bool
+isConfiguration n L = leb n 32 && (leb (length L) 128 && (linesFit n L && weightsFit L))
 
 unfoldable pub anyNegative : List Line → Bool
 anyNegative [] = false

@@ -7,15 +7,15 @@ use native.Mathlib.Omega.{arith}
 use lib.Dec.{T, ltb, le→leb}
 use lib.IntN.{ℤ, pos, negsuc, _+ℤ_, negℤ, +ℤ-assoc, +ℤ-comm, +ℤ-idl, +ℤ-idr, negℤ-+ℤ}
 use lib.Signed.{_≤ℤ_, leZ, leZ-yes}
-use Rattle.run.specs.Boolean.{of-true, both, left, right, cond-ind}
+use Rattle.run.specs.BooleanLaws.{of-true, both, left, right, cond-ind}
 use Rattle.polynomial.specs.Polynomial.{ONE, eval, orderOf}
 use Rattle.polynomial.specs.PolynomialLaws.{eval-one}
 use Rattle.polynomial.specs.OrderingLaws.{flip, order-flip, order-self, order-same, order-trans}
 use Rattle.polynomial.specs.declared.Ordering.{Ordering}
 use Rattle.polynomial.specs.declared.Ordering.the-variants.{Earlier, Same, Later}
 use Rattle.configuration.specs.Weight.{isZero, share}
-use Rattle.configuration.specs.Configuration.{Line, line, some, byOrder, same, total, cost, weight, keep, fold, add, addAll, negated, Behind, Ordered, Every, isPolynomial, lineFits, linesFit, anyNegative}
-use Rattle.configuration.specs.Sums.{zero-is, not-zero, share-zero, share-add, share-neg, +ℤ-inj, solve, o, v, _⊞_}
+use Rattle.configuration.specs.Configuration.{Line, line, some, byOrder, same, total, cost, weight, keep, fold, add, addAll, negated, Behind, InOrder, Every, isPolynomial, lineFits, linesFit, anyNegative}
+use Rattle.configuration.specs.SumLaws.{zero-is, zero-not, share-zero, share-add, share-neg, +ℤ-inj, solve, o, v, _⊞_}
 
 -- ---- cases by the order of two polynomials
 pub order-ind : {A : Type 0} (c : Ordering) {x y z : A} (P : A → Type 0) → (c ≡ Earlier → P x) → (c ≡ Same → P y) → (c ≡ Later → P z) → P (byOrder c x y z)
@@ -141,13 +141,13 @@ pub behind-trans : (f g : List ℕ) (L : List Line) → orderOf f g ≡ Earlier 
 behind-trans f g [] h b = tt
 behind-trans f g (line p u ∷ L) h b = (order-trans f g p h (b .0), behind-trans f g L h (b .1))
 
-keep-ordered : (f : List ℕ) (w : ℤ) (L : List Line) → T (some f) → Behind f L → Ordered L → Ordered (keep f w L)
-keep-ordered f w L n b r = cond-ind (isZero w) Ordered (λ z. r) (λ z. (n, (z, (b, r))))
+keep-ordered : (f : List ℕ) (w : ℤ) (L : List Line) → T (some f) → Behind f L → InOrder L → InOrder (keep f w L)
+keep-ordered f w L n b r = cond-ind (isZero w) InOrder (λ z. r) (λ z. (n, (z, (b, r))))
 
-fold-ordered : (f : List ℕ) (w : ℤ) (L : List Line) → T (some f) → Ordered L → Ordered (fold f w L)
+fold-ordered : (f : List ℕ) (w : ℤ) (L : List Line) → T (some f) → InOrder L → InOrder (fold f w L)
 unfolding fold
 fold-ordered f w [] n r = keep-ordered f w [] n tt tt
-fold-ordered f w (line g u ∷ L) n r = order-ind (orderOf f g) Ordered
+fold-ordered f w (line g u ∷ L) n r = order-ind (orderOf f g) InOrder
     (λ k. keep-ordered f w (line g u ∷ L) n (k, behind-trans f g L k (r .1 .1 .0)) r)
     (λ k. keep-ordered g (u +ℤ w) L (r .0) (r .1 .1 .0) (r .1 .1 .1))
     (λ k. (
@@ -161,12 +161,12 @@ fold-ordered f w (line g u ∷ L) n r = order-ind (orderOf f g) Ordered
       ),
     ))
 
-pub add-ordered : (f : List ℕ) (w : ℤ) (L : List Line) → Ordered L → Ordered (add f w L)
+pub add-ordered : (f : List ℕ) (w : ℤ) (L : List Line) → InOrder L → InOrder (add f w L)
 unfolding add
 add-ordered [] w L r = r
 add-ordered (t ∷ f) w L r = fold-ordered (t ∷ f) w L tt r
 
-pub all-ordered : (C L : List Line) → Ordered L → Ordered (addAll C L)
+pub all-ordered : (C L : List Line) → InOrder L → InOrder (addAll C L)
 unfolding addAll
 all-ordered [] L r = r
 all-ordered (line f w ∷ C) L r = all-ordered C (add f w L) (add-ordered f w L r)
@@ -181,17 +181,17 @@ pub weight-head : (f : List ℕ) (w : ℤ) (L : List Line) → Behind f L → we
 unfolding total
 weight-head f w L b = rw (order-self f, weight-behind f L b) (+ℤ-idr w)
 
-pub unique : (L M : List Line) → Ordered L → Ordered M → ((p : List ℕ) → T (some p) → weight L p ≡ weight M p) → L ≡ M
+pub unique : (L M : List Line) → InOrder L → InOrder M → ((p : List ℕ) → T (some p) → weight L p ≡ weight M p) → L ≡ M
 unfolding total
 unique [] [] r s h = refl
-unique [] (line g u ∷ M) r s h = absurd (not-zero u (s .1 .0) (sym (weight-head g u M (s .1 .1 .0)) ∙ sym (h g (s .0))))
-unique (line f w ∷ L) [] r s h = absurd (not-zero w (r .1 .0) (sym (weight-head f w L (r .1 .1 .0)) ∙ h f (r .0)))
+unique [] (line g u ∷ M) r s h = absurd (zero-not u (s .1 .0) (sym (weight-head g u M (s .1 .1 .0)) ∙ sym (h g (s .0))))
+unique (line f w ∷ L) [] r s h = absurd (zero-not w (r .1 .0) (sym (weight-head f w L (r .1 .1 .0)) ∙ h f (r .0)))
 unique (line f w ∷ L) (line g u ∷ M) r s h = go (orderOf f g) refl (λ k. unique L M (r .1 .1 .1) (s .1 .1 .1) k)
   where
     go : (c : Ordering) → orderOf f g ≡ c → (((p : List ℕ) → T (some p) → weight L p ≡ weight M p) → L ≡ M) → line f w ∷ L ≡ line g u ∷ M
-    go Earlier k rest = absurd (not-zero w (r .1 .0) (sym (weight-head f w L (r .1 .1 .0)) ∙ h f (r .0)
+    go Earlier k rest = absurd (zero-not w (r .1 .0) (sym (weight-head f w L (r .1 .1 .0)) ∙ h f (r .0)
         ∙ weight-behind f (line g u ∷ M) (k, behind-trans f g M k (s .1 .1 .0))))
-    go Later k rest = absurd (not-zero u (s .1 .0) (sym (weight-head g u M (s .1 .1 .0)) ∙ sym (h g (s .0))
+    go Later k rest = absurd (zero-not u (s .1 .0) (sym (weight-head g u M (s .1 .1 .0)) ∙ sym (h g (s .0))
         ∙ weight-behind g (line f w ∷ L) (order-later f g k, behind-trans g f L (order-later f g k) (r .1 .1 .0))))
     go Same k rest =
         let e : f ≡ g = order-same f g k in
@@ -200,7 +200,7 @@ unique (line f w ∷ L) (line g u ∷ M) r s h = go (orderOf f g) refl (λ k. un
         (rest (λ p n. +ℤ-inj (share (same p f) w) (weight L p) (weight M p) (h p n ∙ rw (e, d))))
 
 -- the order of two additions does not matter
-pub add-comm : (f g : List ℕ) (u w : ℤ) (L : List Line) → Ordered L → add f u (add g w L) ≡ add g w (add f u L)
+pub add-comm : (f g : List ℕ) (u w : ℤ) (L : List Line) → InOrder L → add f u (add g w L) ≡ add g w (add f u L)
 add-comm f g u w L r = unique (add f u (add g w L)) (add g w (add f u L))
     (add-ordered f u (add g w L) (add-ordered g w L r)) (add-ordered g w (add f u L) (add-ordered f u L r))
     (λ p n. weight-add p n f u (add g w L) ∙ ap (λ (z : ℤ). z +ℤ share (same p f) u) (weight-add p n g w L)
@@ -208,7 +208,7 @@ add-comm f g u w L r = unique (add f u (add g w L)) (add g w (add f u L))
     ∙ sym (weight-add p n g w (add f u L) ∙ ap (λ (z : ℤ). z +ℤ share (same p g) w) (weight-add p n f u L)))
 
 -- folding the changes among themselves first changes nothing
-pub netted : (C L : List Line) → Ordered L → addAll (addAll C []) L ≡ addAll C L
+pub netted : (C L : List Line) → InOrder L → addAll (addAll C []) L ≡ addAll C L
 unfolding total
 netted C L r = unique (addAll (addAll C []) L) (addAll C L) (all-ordered (addAll C []) L r) (all-ordered C L r)
     (λ p n. weight-all p n (addAll C []) L ∙ ap (λ (z : ℤ). weight L p +ℤ z) (weight-all p n C [] ∙ +ℤ-idl (weight C p)) ∙ sym (weight-all p n C L))
@@ -247,13 +247,13 @@ module _ (n : ℕ) where
   fit-next f g w u L h = earlier-is (orderOf f g) (left (byOrder (orderOf f g) true false false) (linesFit n (line g u ∷ L))
       (right (lineFits n (line f w)) (byOrder (orderOf f g) true false false && linesFit n (line g u ∷ L)) h))
 
-  pub fit-ordered : (L : List Line) → T (linesFit n L) → Ordered L
+  pub fit-ordered : (L : List Line) → T (linesFit n L) → InOrder L
   fit-ordered [] h = tt
   fit-ordered (line f w ∷ L) h =
       let q : T (lineFits n (line f w)) = fit-head (line f w) L h in
       (fits-some f w q, (fits-weight f w q, (next L h (fit-ordered L (fit-tail (line f w) L h)), fit-ordered L (fit-tail (line f w) L h))))
     where
-      next : (L : List Line) → T (linesFit n (line f w ∷ L)) → Ordered L → Behind f L
+      next : (L : List Line) → T (linesFit n (line f w ∷ L)) → InOrder L → Behind f L
       next [] h r = tt
       next (line g u ∷ L) h r = (fit-next f g w u L h, behind-trans f g L (fit-next f g w u L h) (r .1 .1 .0))
 
@@ -261,7 +261,7 @@ module _ (n : ℕ) where
   fit-every [] h = tt
   fit-every (line f w ∷ L) h = (fits-polynomial f w (fit-head (line f w) L h), fit-every L (fit-tail (line f w) L h))
 
-  pub fits : (L : List Line) → Ordered L → Every (λ f. T (isPolynomial n f)) L → T (linesFit n L)
+  pub fits : (L : List Line) → InOrder L → Every (λ f. T (isPolynomial n f)) L → T (linesFit n L)
   unfolding linesFit
   fits [] r e = tt
   fits (line f w ∷ []) r e = line-fits f w (r .0) (e .0) (r .1 .0)

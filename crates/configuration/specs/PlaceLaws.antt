@@ -11,13 +11,13 @@ use lib.Dec.{T, T-not}
 use lib.IntN.{ℤ, pos, _+ℤ_, +ℤ-idl, +ℤ-idr}
 use lib.ListN.{length, getD, take, drop}
 use lib.Seq.{drop-cons, drop-length}
-use Rattle.run.specs.Boolean.{bool-ext, is-false, of-true, both, left, right}
+use Rattle.run.specs.BooleanLaws.{bool-ext, is-false, of-true, both, left, right}
 use Rattle.polynomial.specs.Polynomial.{orderOf}
 use Rattle.polynomial.specs.OrderingLaws.{order-self, order-same, order-trans}
 use Rattle.polynomial.specs.declared.Ordering.{Ordering}
 use Rattle.polynomial.specs.declared.Ordering.the-variants.{Earlier, Same, Later}
 use Rattle.configuration.specs.Weight.{inRange, isZero, share}
-use Rattle.configuration.specs.Configuration.{Line, line, some, byOrder, same, total, weight, keep, fold, add, addAll, Behind, Ordered, placeOf, weightsFit}
+use Rattle.configuration.specs.Configuration.{Line, line, some, byOrder, same, total, weight, keep, fold, add, addAll, Behind, InOrder, placeOf, weightsFit}
 use Rattle.configuration.specs.ConfigurationLaws.{order-ind, order-later, order-earlier, same-is, weight-add, weight-all, behind-trans, add-ordered, all-ordered, weight-behind, weight-head}
 
 -- ---- the place
@@ -51,7 +51,7 @@ weight-at f (line g u ∷ L) = order-ind (orderOf f g) (λ (k : ℕ). weight (li
     (λ e. refl)
     (λ e. rw e (+ℤ-idl (weight L f) ∙ weight-at f L))
 
-ordered-drop : (k : ℕ) (L : List Line) → Ordered L → Ordered (drop k L)
+ordered-drop : (k : ℕ) (L : List Line) → InOrder L → InOrder (drop k L)
 ordered-drop zero L r = r
 ordered-drop (suc k) [] r = tt
 ordered-drop (suc k) (line g u ∷ L) r = ordered-drop k L (r .1 .1 .1)
@@ -61,9 +61,9 @@ drop-place : (f : List ℕ) (L : List Line) (x d : Line) → placeOf f L < lengt
     → drop (placeOf f L) L ≡ x ∷ drop (suc (placeOf f L)) L
 drop-place f L x d l e = drop-cons L (placeOf f L) d l ∙ ap (λ (y : Line). y ∷ drop (suc (placeOf f L)) L) e
 
-drop-ordered : (f : List ℕ) (L : List Line) (x d : Line) → Ordered L → placeOf f L < length L → getD L (placeOf f L) d ≡ x
-    → Ordered (x ∷ drop (suc (placeOf f L)) L)
-drop-ordered f L x d r l e = subst Ordered (drop-place f L x d l e) (ordered-drop (placeOf f L) L r)
+drop-ordered : (f : List ℕ) (L : List Line) (x d : Line) → InOrder L → placeOf f L < length L → getD L (placeOf f L) d ≡ x
+    → InOrder (x ∷ drop (suc (placeOf f L)) L)
+drop-ordered f L x d r l e = subst InOrder (drop-place f L x d l e) (ordered-drop (placeOf f L) L r)
 
 -- ---- line k is of f
 pub fold-held : (f : List ℕ) (w : ℤ) (L : List Line) (u : ℤ) (d : Line) → T (some f) → placeOf f L < length L → getD L (placeOf f L) d ≡ line f u
@@ -72,7 +72,7 @@ unfolding fold
 fold-held f w L u d n l e =
     add-fold f w L n ∙ fold-at f w L ∙ ap (λ (M : List Line). take (placeOf f L) L ++ fold f w M) (drop-place f L (line f u) d l e) ∙ rw (order-self f)
 
-pub weight-held : (f : List ℕ) (L : List Line) (u : ℤ) (d : Line) → Ordered L → placeOf f L < length L → getD L (placeOf f L) d ≡ line f u → weight L f ≡ u
+pub weight-held : (f : List ℕ) (L : List Line) (u : ℤ) (d : Line) → InOrder L → placeOf f L < length L → getD L (placeOf f L) d ≡ line f u → weight L f ≡ u
 weight-held f L u d r l e = weight-at f L ∙ ap (λ (M : List Line). weight M f) (drop-place f L (line f u) d l e)
     ∙ weight-head f u (drop (suc (placeOf f L)) L) (drop-ordered f L (line f u) d r l e .1 .1 .0)
 
@@ -86,7 +86,7 @@ module _ (f : List ℕ) (L : List Line) (g : List ℕ) (u : ℤ) (d : Line) wher
   fold-fresh w (inl q) = rw (q, drop-length L)
   fold-fresh w (inr q) = rw (drop-place f L (line g u) d (q .0) (q .1 .0), q .1 .1)
 
-  weight-fresh : Ordered L → Fresh f L g u d → weight (drop (placeOf f L) L) f ≡ pos 0
+  weight-fresh : InOrder L → Fresh f L g u d → weight (drop (placeOf f L) L) f ≡ pos 0
   unfolding total
   weight-fresh r (inl q) = rw (q, drop-length L)
   weight-fresh r (inr q) = rw (drop-place f L (line g u) d (q .0) (q .1 .0)) (weight-behind f (line g u ∷ drop (suc (placeOf f L)) L)
@@ -96,7 +96,7 @@ pub fold-new : (f : List ℕ) (w : ℤ) (L : List Line) (g : List ℕ) (u : ℤ)
     → add f w L ≡ take (placeOf f L) L ++ keep f w (drop (placeOf f L) L)
 fold-new f w L g u d n q = add-fold f w L n ∙ fold-at f w L ∙ ap (λ (M : List Line). take (placeOf f L) L ++ M) (fold-fresh f L g u d w q)
 
-pub weight-new : (f : List ℕ) (L : List Line) (g : List ℕ) (u : ℤ) (d : Line) → Ordered L → Fresh f L g u d → weight L f ≡ pos 0
+pub weight-new : (f : List ℕ) (L : List Line) (g : List ℕ) (u : ℤ) (d : Line) → InOrder L → Fresh f L g u d → weight L f ≡ pos 0
 weight-new f L g u d r q = weight-at f L ∙ weight-fresh f L g u d r q
 
 -- ---- a search by halving: line i is of g
@@ -106,7 +106,7 @@ behind-at f g u d zero (line p w ∷ L) b l e = cc (b .0)
 behind-at f g u d (suc i) (line p w ∷ L) b l e = behind-at f g u d i L (b .1) (le-of-suc-le-suc l) e
 
 module _ (f g : List ℕ) (u : ℤ) (d : Line) where
-  pub earlier-right : (i : ℕ) (L : List Line) → Ordered L → i < length L → getD L i d ≡ line g u → orderOf f g ≡ Later → i < placeOf f L
+  pub earlier-right : (i : ℕ) (L : List Line) → InOrder L → i < length L → getD L i d ≡ line g u → orderOf f g ≡ Later → i < placeOf f L
   unfolding placeOf
   earlier-right i [] r l e h = let z : ⊥ = omega arith in absurd z
   earlier-right zero (line p w ∷ L) r l e h = let k : orderOf f p ≡ Later = cc in rw k (omega arith)
@@ -122,7 +122,7 @@ module _ (f g : List ℕ) (u : ℤ) (d : Line) where
   earlier-left (suc i) (line p w ∷ L) l e h = order-ind (orderOf f p) (λ (k : ℕ). k ≤ suc i)
       (λ k. omega arith) (λ k. omega arith) (λ k. omega (arith, earlier-left i L (le-of-suc-le-suc l) e h))
 
-  pub same-here : (i : ℕ) (L : List Line) → Ordered L → i < length L → getD L i d ≡ line g u → orderOf f g ≡ Same → placeOf f L ≡ i
+  pub same-here : (i : ℕ) (L : List Line) → InOrder L → i < length L → getD L i d ≡ line g u → orderOf f g ≡ Same → placeOf f L ≡ i
   unfolding placeOf
   same-here i [] r l e h = let z : ⊥ = omega arith in absurd z
   same-here zero (line p w ∷ L) r l e h = let k : orderOf f p ≡ Same = cc in rw k
@@ -148,7 +148,7 @@ weight-skip : (p f : List ℕ) (w : ℤ) (L : List Line) → same p f ≡ false 
 unfolding total
 weight-skip p f w L e = ap (λ (b : Bool). share b w +ℤ weight L p) e ∙ +ℤ-idl (weight L p)
 
-fold-grown : (f : List ℕ) (w : ℤ) (L : List Line) → Ordered L
+fold-grown : (f : List ℕ) (w : ℤ) (L : List Line) → InOrder L
     → length (fold f w L) + toNat (not (isZero (weight L f))) ≡ length L + toNat (not (isZero (weight L f +ℤ w)))
 unfolding fold
 fold-grown f w [] r = rw (weight-behind f [] tt, +ℤ-idl w) (omega (arith, length-keep f w []))
@@ -162,7 +162,7 @@ fold-grown f w (line g u ∷ L) r = go (orderOf f g) refl (fold-grown f w L (r .
     go Same e k = rw (order-same f g e, weight-head g u L (r .1 .1 .0), order-self g, is-false (isZero u) (T-not (isZero u) (r .1 .0))) (omega (arith, length-keep g (u +ℤ w) L))
     go Later e k = rw (weight-skip f g u L (ap (λ (c : Ordering). byOrder c false true false) e), e) (omega arith)
 
-pub grown : (f : List ℕ) (w : ℤ) (L : List Line) → T (some f) → Ordered L
+pub grown : (f : List ℕ) (w : ℤ) (L : List Line) → T (some f) → InOrder L
     → length (add f w L) + toNat (not (isZero (weight L f))) ≡ length L + toNat (not (isZero (weight L f +ℤ w)))
 grown f w L n r = rw (add-fold f w L n) (fold-grown f w L r)
 
@@ -182,17 +182,17 @@ unfoldable pub gained : List Line → List Line → ℕ
 gained [] L = 0
 gained (line f w ∷ N) L = toNat (not (isZero (weight L f +ℤ w))) + gained N L
 
-lost-add : (f : List ℕ) (w : ℤ) (N L : List Line) → Behind f N → Ordered N → lost N (add f w L) ≡ lost N L
+lost-add : (f : List ℕ) (w : ℤ) (N L : List Line) → Behind f N → InOrder N → lost N (add f w L) ≡ lost N L
 unfolding lost
 lost-add f w [] L b s = refl
 lost-add f w (line g u ∷ N) L b s = rw (weight-other g f w L (s .0) (not-same f g (b .0)), lost-add f w N L (b .1) (s .1 .1 .1))
 
-gained-add : (f : List ℕ) (w : ℤ) (N L : List Line) → Behind f N → Ordered N → gained N (add f w L) ≡ gained N L
+gained-add : (f : List ℕ) (w : ℤ) (N L : List Line) → Behind f N → InOrder N → gained N (add f w L) ≡ gained N L
 unfolding gained
 gained-add f w [] L b s = refl
 gained-add f w (line g u ∷ N) L b s = rw (weight-other g f w L (s .0) (not-same f g (b .0)), gained-add f w N L (b .1) (s .1 .1 .1))
 
-pub length-all : (N L : List Line) → Ordered N → Ordered L → length (addAll N L) + lost N L ≡ length L + gained N L
+pub length-all : (N L : List Line) → InOrder N → InOrder L → length (addAll N L) + lost N L ≡ length L + gained N L
 unfolding addAll lost gained
 length-all [] L s r = refl
 length-all (line f w ∷ N) L s r = omega (
@@ -210,7 +210,7 @@ everyLine R [] = true
 everyLine R (line f w ∷ L) = R f w && everyLine R L
 
 module _ (R : List ℕ → ℤ → Bool) (none : (p : List ℕ) → T (R p (pos 0))) where
-  lines-weights : (L : List Line) → Ordered L → T (everyLine R L) → (p : List ℕ) → T (R p (weight L p))
+  lines-weights : (L : List Line) → InOrder L → T (everyLine R L) → (p : List ℕ) → T (R p (weight L p))
   unfolding everyLine
   lines-weights [] r h p = rw (weight-behind p [] tt) (none p)
   lines-weights (line f w ∷ L) r h p = go (orderOf p f) refl (lines-weights L (r .1 .1 .1) (right (R f w) (everyLine R L) h) p)
@@ -220,7 +220,7 @@ module _ (R : List ℕ → ℤ → Bool) (none : (p : List ℕ) → T (R p (pos 
       go Same e k = rw (order-same p f e, weight-head f w L (r .1 .1 .0)) (left (R f w) (everyLine R L) h)
       go Later e k = rw (weight-skip p f w L (not-same f p (order-later p f e))) k
 
-  weights-lines : (L : List Line) → Ordered L → ((p : List ℕ) → T (some p) → T (R p (weight L p))) → T (everyLine R L)
+  weights-lines : (L : List Line) → InOrder L → ((p : List ℕ) → T (some p) → T (R p (weight L p))) → T (everyLine R L)
   unfolding everyLine
   weights-lines [] r h = tt
   weights-lines (line f w ∷ L) r h = both (R f w) (everyLine R L) (rw (weight-head f w L (r .1 .1 .0)) at (h f (r .0)))
@@ -236,10 +236,10 @@ fit-lines [] = refl
 fit-lines (line f w ∷ L) = ap (λ (b : Bool). inRange w && b) (fit-lines L)
 
 -- the weights are in range where the weight of every polynomial is
-pub fit-weight : (L : List Line) → Ordered L → T (weightsFit L) → (p : List ℕ) → T (inRange (weight L p))
+pub fit-weight : (L : List Line) → InOrder L → T (weightsFit L) → (p : List ℕ) → T (inRange (weight L p))
 fit-weight L r h p = lines-weights (λ f w. inRange w) (λ q. tt) L r (rw (fit-lines L) at h) p
 
-pub weight-fit : (L : List Line) → Ordered L → ((p : List ℕ) → T (some p) → T (inRange (weight L p))) → T (weightsFit L)
+pub weight-fit : (L : List Line) → InOrder L → ((p : List ℕ) → T (some p) → T (inRange (weight L p))) → T (weightsFit L)
 weight-fit L r h = rw (fit-lines L) (weights-lines (λ f w. inRange w) (λ q. tt) L r h)
 
 -- the outcome of every polynomial of N, folded into L, is in range
@@ -252,7 +252,7 @@ unfolding outcomesFit everyLine
 outcome-lines [] L = refl
 outcome-lines (line f w ∷ N) L = ap (λ (b : Bool). inRange (weight L f +ℤ w) && b) (outcome-lines N L)
 
-pub weights-all : (N L : List Line) → Ordered N → Ordered L → T (weightsFit L) → weightsFit (addAll N L) ≡ outcomesFit N L
+pub weights-all : (N L : List Line) → InOrder N → InOrder L → T (weightsFit L) → weightsFit (addAll N L) ≡ outcomesFit N L
 weights-all N L s r h = bool-ext (weightsFit (addAll N L)) (outcomesFit N L)
     (λ k. rw (outcome-lines N L) (weights-lines (λ f w. inRange (weight L f +ℤ w)) none N s
     (λ p n. rw (weight-all p n N L) at (fit-weight (addAll N L) (all-ordered N L r) k p))))

@@ -1,47 +1,48 @@
--- Which record a kind is.
-use mathlib.Core.Path.{_≡_}
+-- What a record of each kind does is what a record of its letter does.
+use mathlib.Core.Path.{_≡_, refl, ap, _∙_}
+use mathlib.Core.Bool.{Bool, true, false, cond}
 use mathlib.Core.List.{List}
 use Prim.Native.Nat.{ℕ}
+use lib.Dec.{eqb}
 use lib.ListN.{getD}
-use borrow.Author.Tests.{ne-eqb}
+use Rattle.refusal.specs.Outcome.{Outcome, refused}
 use Rattle.calculus.specs.declared.Rule.the-variants.{Sum, Prod}
 use Rattle.calculus.specs.declared.Mode.the-variants.{Plain, Signed}
-use Rattle.walk.specs.Walk.{turnedDown, Progress}
+use Rattle.record.specs.Letters.{letterN, letterZ, letterM, letterK, letterS, letterP, letterB}
+use Rattle.walk.specs.Walk.{Progress}
 use Rattle.derivation.specs.Derivation.{State, onMode, onTerm, onChoice, onStep, onClaim, onRecord}
+use Rattle.derivation.specs.Held.{kindOf}
+use Rattle.derivation.specs.declared.Kind.{Kind}
+use Rattle.derivation.specs.declared.Kind.the-variants.{Start, Term, Choice, Step, Claim, Unknown}
 
 module _ (n : ℕ) (s : List ℕ) (p : Progress State) where
-  abbrev kind : ℕ
-  kind = getD s (p .at) 0
+  abbrev pub onKind : Kind → Outcome (Progress State)
+  onKind (Start d) = onMode d p
+  onKind Term = onTerm n s p
+  onKind Choice = onChoice p
+  onKind (Step r) = onStep r s p
+  onKind Claim = onClaim s p
+  onKind Unknown = refused 4
 
-  pub is-plain : kind ≡ 78 → onRecord n s p ≡ onMode Plain p
+  of-kind : onRecord n s p ≡ onKind (kindOf (getD s (p .at) 0))
   unfolding onRecord
-  is-plain e = rw e
+  of-kind = go (eqb kind letterN) (eqb kind letterZ) (eqb kind letterM) (eqb kind letterK) (eqb kind letterS) (eqb kind letterP) (eqb kind letterB)
+    where
+      kind : ℕ
+      kind = getD s (p .at) 0
 
-  pub is-signed : kind ≡ 90 → onRecord n s p ≡ onMode Signed p
-  unfolding onRecord
-  is-signed e = rw e
+      go : (a b c d e f g : Bool)
+          → cond a (onMode Plain p) (cond b (onMode Signed p) (cond c (onTerm n s p) (cond d (onChoice p)
+          (cond e (onStep Sum s p) (cond f (onStep Prod s p) (cond g (onClaim s p) (refused 4)))))))
+          ≡ onKind (cond a (Start Plain) (cond b (Start Signed) (cond c Term (cond d Choice (cond e (Step Sum) (cond f (Step Prod) (cond g Claim Unknown)))))))
+      go true b c d e f g = refl
+      go false true c d e f g = refl
+      go false false true d e f g = refl
+      go false false false true e f g = refl
+      go false false false false true f g = refl
+      go false false false false false true g = refl
+      go false false false false false false true = refl
+      go false false false false false false false = refl
 
-  pub is-term : kind ≡ 77 → onRecord n s p ≡ onTerm n s p
-  unfolding onRecord
-  is-term e = rw e
-
-  pub is-choice : kind ≡ 75 → onRecord n s p ≡ onChoice p
-  unfolding onRecord
-  is-choice e = rw e
-
-  pub is-sum : kind ≡ 83 → onRecord n s p ≡ onStep Sum s p
-  unfolding onRecord
-  is-sum e = rw e
-
-  pub is-prod : kind ≡ 80 → onRecord n s p ≡ onStep Prod s p
-  unfolding onRecord
-  is-prod e = rw e
-
-  pub is-claim : kind ≡ 66 → onRecord n s p ≡ onClaim s p
-  unfolding onRecord
-  is-claim e = rw e
-
-  pub is-none : (kind ≡ 77 → ⊥) → (kind ≡ 75 → ⊥) → (kind ≡ 83 → ⊥) → (kind ≡ 80 → ⊥) → (kind ≡ 66 → ⊥) → (kind ≡ 78 → ⊥) → (kind ≡ 90 → ⊥)
-      → onRecord n s p ≡ turnedDown 4
-  unfolding onRecord
-  is-none a b c d e f g = rw (ne-eqb kind 78 f, ne-eqb kind 90 g, ne-eqb kind 77 a, ne-eqb kind 75 b, ne-eqb kind 83 c, ne-eqb kind 80 d, ne-eqb kind 66 e)
+  pub is-kind : (k : Kind) → kindOf (getD s (p .at) 0) ≡ k → onRecord n s p ≡ onKind k
+  is-kind k e = of-kind ∙ ap onKind e

@@ -1,107 +1,104 @@
 -- The walk over the records as code goes it: what holds before each turn, and what is told where it ends.
-use mathlib.Core.Path.{_≡_, refl, sym, ap, subst, _∙_}
+use mathlib.Core.Path.{_≡_, refl, ap, _∙_}
 use mathlib.Core.Bool.{cond}
 use mathlib.Core.List.{List}
 use Prim.Native.Nat.{ℕ, suc, _+_, _-_, _≤_, _<_}
 use native.Mathlib.Numerals.{add-one}
 use native.Mathlib.Omega.{arith}
 use lib.Dec.{T}
-use lib.IntN.{ℤ}
 use lib.ListN.{length}
+use Rattle.refusal.specs.Outcome.{nothing, refusedFor, Reached, after, Told}
+use Rattle.refusal.specs.OutcomeLaws.{after-accepted}
+use Rattle.refusal.specs.declared.Objection.the-variants.{Nothing, Found}
 use Rattle.refusal.specs.Refusal.{numberOf}
 use Rattle.refusal.specs.declared.Reason.{Reason}
-use Rattle.configuration.specs.FormLaws.{none-polynomial}
-use Rattle.configuration.specs.Memory.{Memory, linesOf, imageOf, wellFormed}
-use Rattle.configuration.specs.Index.{indexedOf, Kept}
-use Rattle.configuration.specs.MemoryLaws.{well-formed, formed-image}
-use Rattle.walk.specs.Walk.{nothing, refusedFor, Walked, after, walk}
+use Rattle.polynomial.specs.Polynomial.{Ordered}
+use Rattle.configuration.specs.Configuration.{Every, isConfiguration}
+use Rattle.configuration.specs.LineLaws.{polynomial-short, polynomial-sorted, configuration-parts}
+use Rattle.table.specs.Rows.{withLines, Table, linesOf, Fits, madeIn}
 use Rattle.walk.proofs.Leads.{Leads, begins, ends, inside, next-leads, unmoved, ends-refused}
-use Rattle.walk.specs.declared.Turn.the-variants.{Accepted, Refused}
-use Rattle.derivation.specs.Derivation.{State, onRecord, checking, toldOf, verdict, leftOf, leaves}
+use Rattle.derivation.specs.Derivation.{State, onRecord, checking, degreeIn, Confirmation, toldOfCheck}
+use Rattle.derivation.specs.DerivationLaws.{Sound, sound-fresh, sound-record, walked, madeBy}
+use Rattle.derivation.specs.DegreeLaws.{terms-ordered}
 use Rattle.derivation.specs.RefusedLaws.{checking-local}
-use Rattle.derivation.specs.Held.{progressOf, Ready}
-use Rattle.derivation.specs.declared.Answer.{Answer}
+use Rattle.derivation.specs.Held.{progressIn, leftIn, openingOf, Held, Usable}
+use Rattle.derivation.specs.declared.CheckAnswer.{CheckAnswer}
 use Rattle.derivation.specs.declared.Progress.{Progress}
-use Rattle.derivation.specs.declared.Step.{Step}
-use Rattle.derivation.proofs.Entries.{left-by}
+use Rattle.derivation.specs.declared.Recorded.{Recorded}
 use Rattle.walk.specs.Walk as W
-use Rattle.derivation.specs.declared.Answer.the-variants as Answers
+use Rattle.derivation.specs.declared.CheckAnswer.the-variants as Answers
 
 -- what is still to be walked gives the whole
-abbrev pub Walks : ℕ → List ℕ → Walked (W.Progress State) → Progress → List ℕ → List ℕ → List ℕ → List ℕ → List ℤ → List ℕ → Type 0
-Walks n s x p fs us is ts ws cs = Ready n p fs us is ts ws cs × (p .at ≤ length s) × Leads (checking n) s x (progressOf p fs us is ts ws cs)
+abbrev pub Walks : ℕ → List ℕ → Reached (W.Progress State) → Progress → List ℕ → List ℕ → Table → Type 0
+Walks n s x p fs us t = Held p fs us t × Sound n (progressIn p fs us t .state) × (p .at ≤ length s) × Leads (checking n) s x (progressIn p fs us t)
 
 -- before the first record
-pub starts : (s : List ℕ) (p : Progress) (fs us is ts : List ℕ) (ws : List ℤ) (cs : List ℕ) → Kept 128 (p .head) is ts ws cs → T (wellFormed (indexedOf (p .head) is ts ws cs))
-    → length fs ≡ 64 → length us ≡ 64 → p .first ≡ 0 → p .work ≡ 0 → p .at ≡ 0 → p .records ≡ 0
-    → Walks (p .head .variables) s (walk (checking (p .head .variables)) (length s) s (progressOf p fs us is ts ws cs)) p fs us is ts ws cs
-starts s p fs us is ts ws cs kept well l m f g a r =
-    let n : ℕ = p .head .variables in (
-      record {
-        kept = kept;
-        well = well;
-        variables = refl;
-        operand = rw f (none-polynomial n);
-        polynomial = rw g (none-polynomial n);
-        first-area = l;
-        first-room = omega arith;
-        area = m;
-        room = omega arith;
-        counted = omega arith;
-      },
-      omega arith,
-      begins (checking n) s _ (progressOf p fs us is ts ws cs) r refl,
-    )
+pub starts : (n : ℕ) (s : List ℕ) (k : ℕ) (fs us : List ℕ) (t : Table) → Fits 128 (withLines k t) → T (isConfiguration n (linesOf (withLines k t)))
+    → length fs ≡ 64 → length us ≡ 64 → Walks n s (walked s n (linesOf (withLines k t))) (openingOf k) fs us t
+starts n s k fs us t fits c l m = (
+  record { fits = fits; first-area = l; first-room = omega arith; area = m; room = omega arith; counted = omega arith },
+  sound-fresh n (linesOf (withLines k t)) c,
+  omega arith,
+  begins (checking n) s _ (progressIn (openingOf k) fs us t) refl refl,
+)
 
--- the variables stay those of the start
-pub ready-now : (n : ℕ) (p : Progress) (fs us is ts : List ℕ) (ws : List ℤ) (cs : List ℕ) → Ready n p fs us is ts ws cs → Ready (p .head .variables) p fs us is ts ws cs
-ready-now n p fs us is ts ws cs ready = subst (λ (k : ℕ). Ready k p fs us is ts ws cs) (sym (ready .variables)) ready
+-- what a step asks
+usable : (n : ℕ) (x : State) → Sound n x → Usable x
+usable n x o = (
+  (polynomial-short n (x .first) (o .operand), polynomial-sorted n (x .first) (o .operand)),
+  (polynomial-short n (x .work) (o .polynomial), polynomial-sorted n (x .work) (o .polynomial)),
+  configuration-parts n (x .lines) (o .configuration) .weights,
+)
 
--- what the areas stand for is the memory of its lines
-held-image : (n : ℕ) (p : Progress) (fs us is ts : List ℕ) (ws : List ℤ) (cs : List ℕ) → Ready n p fs us is ts ws cs
-    → indexedOf (p .head) is ts ws cs ≡ imageOf 128 n (linesOf (indexedOf (p .head) is ts ws cs))
-held-image n p fs us is ts ws cs ready =
-    let m : Memory = indexedOf (p .head) is ts ws cs in
-    subst (λ (k : ℕ). m ≡ imageOf 128 k (linesOf m)) (ready .variables) (formed-image 128 m (well-formed m (ready .well)))
-
-module _ (n : ℕ) (s : List ℕ) (x : Walked (W.Progress State)) (p : Progress) (fs us is ts : List ℕ) (ws : List ℤ) (cs : List ℕ)
-    (inv : Walks n s x p fs us is ts ws cs) where
+module _ (n : ℕ) (s : List ℕ) (x : Reached (W.Progress State)) (p : Progress) (fs us : List ℕ) (t : Table) (inv : Walks n s x p fs us t) where
   abbrev begun : W.Progress State
-  begun = progressOf p fs us is ts ws cs
+  begun = progressIn p fs us t
+
+  pub asks : p .at < length s → (p .at < length s) × Held p fs us t × Usable (begun .state)
+  asks h = (h, inv .0, usable n (begun .state) (inv .1))
 
   -- one record
-  module _ (h : p .at < length s) (r : Step) (fs′ us′ is′ ts′ : List ℕ) (ws′ : List ℤ) (cs′ : List ℕ)
-      (e : left-by fs′ us′ is′ ts′ ws′ cs′ r ≡ after begun (onRecord (p .head .variables) s begun))
-      (ready : Ready (p .head .variables) (r .progress) fs′ us′ is′ ts′ ws′ cs′) where
+  module _ (h : p .at < length s) (r : Recorded) (fs′ us′ : List ℕ) (t′ : Table)
+      (d : (leftIn r fs′ us′ t′ ≡ after begun (onRecord n s begun)) × Held (r .progress) fs′ us′ t′) where
     abbrev next : W.Progress State
-    next = progressOf (r .progress) fs′ us′ is′ ts′ ws′ cs′
+    next = progressIn (r .progress) fs′ us′ t′
 
-    told : left-by fs′ us′ is′ ts′ ws′ cs′ r ≡ after begun (onRecord n s begun)
-    told = rw (inv .0 .variables) at e
+    module _ (k : r .objection ≡ Nothing) where
+      told : _≡_ {A = Reached (W.Progress State)} (record { reached = next; stop = nothing }) (after begun (onRecord n s begun))
+      told = rw k at (d .0)
 
-    ready′ : Ready n (r .progress) fs′ us′ is′ ts′ ws′ cs′
-    ready′ = rw (inv .0 .variables) at ready
-
-    module _ (k : r .turn ≡ Accepted) where
       lies : (p .at < r .progress .at) × (r .progress .at ≤ length s) × (r .progress .records ≡ suc (p .records))
-      lies = inside (checking n) s begun next (checking-local n) (rw k at told)
+      lies = inside (checking n) s begun next (checking-local n) told
 
-      pub goes-on : Walks n s x (r .progress) fs′ us′ is′ ts′ ws′ cs′
-      goes-on = (ready′, lies .1, next-leads (checking n) s begun next (checking-local n) (rw k at told) x (inv .0 .counted) h (inv .2))
+      pub goes-on : Walks n s x (r .progress) fs′ us′ t′
+      goes-on = (
+        d .1,
+        sound-record n s begun next (after-accepted begun next (onRecord n s begun) told) (inv .1),
+        lies .1,
+        next-leads (checking n) s begun next (checking-local n) told x (inv .0 .counted) h (inv .3),
+      )
 
       pub fewer : length s - r .progress .records < length s - p .records
       fewer = omega (arith, lies .2, inv .0 .counted)
 
-    module _ (reason : Reason) (k : r .turn ≡ Refused reason) where
-      pub refused-count : r .progress .records < length s
-      refused-count = omega (arith, ap (λ (b : W.Progress State). b .records) (unmoved (checking n) s begun next (numberOf reason) (rw k at told)), inv .0 .counted)
+    module _ (reason : Reason) (k : r .objection ≡ Found reason) where
+      refusal : _≡_ {A = Reached (W.Progress State)} (record { reached = next; stop = refusedFor (numberOf reason) }) (after begun (onRecord n s begun))
+      refusal = rw k at (d .0)
 
-      pub refused-there : leftOf (indexedOf (r .progress .head) is′ ts′ ws′ cs′) (Answers.Refused (r .progress .records + 1) reason) ≡ leaves n x
+      pub refused-count : r .progress .records < length s
+      refused-count = omega (arith, ap (λ (b : W.Progress State). b .records) (unmoved (checking n) s begun next (numberOf reason) refusal), inv .0 .counted)
+
+      pub refused-there : madeIn n (withLines (r .progress .lines) t′) (toldOfCheck (Answers.Refused (r .progress .records + 1) reason)) ≡ madeBy n x
       refused-there =
-          ap (λ (m : Memory). leftOf m (Answers.Refused (r .progress .records + 1) reason)) (held-image n (r .progress) fs′ us′ is′ ts′ ws′ cs′ ready′)
-          ∙ rw (add-one (r .progress .records)) (ap (leaves n) (ends-refused (checking n) s begun next (numberOf reason) (rw k at told) x (inv .0 .counted) h (inv .2)))
+          rw (add-one (r .progress .records)) (ap (madeBy n) (ends-refused (checking n) s begun next (numberOf reason) refusal x (inv .0 .counted) h (inv .3)))
 
   -- the end of the bytes
-  pub ends-there : length s ≤ p .at → (a : Answer) → toldOf a ≡ verdict begun (cond (p .closed) nothing (refusedFor 15))
-      → leftOf (indexedOf (p .head) is ts ws cs) a ≡ leaves n x
-  ends-there h a e = ap (λ (m : Memory). leftOf m a) (held-image n p fs us is ts ws cs (inv .0)) ∙ rw e (ap (leaves n) (ends (checking n) s x begun h (inv .2)))
+  module _ (h : length s ≤ p .at) where
+    pub ordered-there : Every Ordered (linesOf (withLines (p .lines) t))
+    ordered-there = terms-ordered n (begun .state .lines) (configuration-parts n (begun .state .lines) (inv .1 .configuration) .fit)
+
+    pub ends-there : (a : CheckAnswer)
+        → toldOfCheck a ≡ W.verdict (p .records) (record { claim = p .claim; degree = degreeIn (begun .state .lines) }) (cond (p .closed) nothing (refusedFor 15))
+        → madeIn n (withLines (p .lines) t) (toldOfCheck a) ≡ madeBy n x
+    ends-there a e =
+        ap (λ (o : Told Confirmation). madeIn n (withLines (p .lines) t) o) e ∙ ap (madeBy n) (ends (checking n) s x begun h (inv .3))

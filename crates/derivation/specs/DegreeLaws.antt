@@ -1,4 +1,4 @@
--- The degree of a configuration: it is the largest degree of a term, and in a configuration that is kept the first term of the first line has it.
+-- The degree of a configuration: it is the largest degree of a term, and where lines and terms stand in order the first term of the first line has it.
 use mathlib.Core.Path.{_≡_, refl, sym, ap}
 use mathlib.Core.Logic.{_⊎_, inl, inr}
 use mathlib.Core.List.{List, [], _∷_}
@@ -9,12 +9,12 @@ use lib.IntN.{ℤ}
 use Rattle.run.specs.Run.{After, All}
 use Rattle.term.specs.Term.{degreeOf, before}
 use Rattle.term.specs.OrderLaws.{Before, before-cases}
-use Rattle.polynomial.specs.Polynomial.{orderOf}
+use Rattle.polynomial.specs.Polynomial.{orderOf, Ordered}
 use Rattle.polynomial.specs.OrderingLaws.{lead}
 use Rattle.polynomial.specs.declared.Ordering.the-variants.{Earlier}
-use Rattle.configuration.specs.Configuration.{Line, line, Behind, Every, isPolynomial, linesFit}
+use Rattle.configuration.specs.Configuration.{Line, line, Behind, InOrder, Every, isPolynomial, linesFit}
 use Rattle.configuration.specs.ConfigurationLaws.{fit-ordered, fit-every}
-use Rattle.configuration.specs.FormLaws.{polynomial-sorted}
+use Rattle.configuration.specs.LineLaws.{polynomial-sorted, every-map}
 use Rattle.derivation.specs.Derivation.{degreeMax, degreeIn}
 
 -- ---- no term has a larger degree
@@ -41,29 +41,28 @@ unfolding degreeMax
 after-degree t [] a = omega arith
 after-degree t (u ∷ f) a = omega (arith, before-degree t u (a .0), after-degree t f (a .1))
 
-head-degree : (n t : ℕ) (f : List ℕ) → T (isPolynomial n (t ∷ f)) → degreeMax (t ∷ f) ≡ degreeOf t
+head-degree : (t : ℕ) (f : List ℕ) → Ordered (t ∷ f) → degreeMax (t ∷ f) ≡ degreeOf t
 unfolding degreeMax
-head-degree n t f h = omega (arith, after-degree t f (polynomial-sorted n (t ∷ f) h .0))
+head-degree t f h = omega (arith, after-degree t f (h .0))
 
-earlier-degree : (n t : ℕ) (f g : List ℕ) → T (isPolynomial n g) → orderOf (t ∷ f) g ≡ Earlier → degreeMax g ≤ degreeOf t
+earlier-degree : (t : ℕ) (f g : List ℕ) → Ordered g → orderOf (t ∷ f) g ≡ Earlier → degreeMax g ≤ degreeOf t
 unfolding degreeMax
-earlier-degree n t f [] h e = omega arith
-earlier-degree n t f (u ∷ g) h e = omega (arith, head-degree n u g h, go (lead t u f g e))
+earlier-degree t f [] h e = omega arith
+earlier-degree t f (u ∷ g) h e = omega (arith, head-degree u g h, go (lead t u f g e))
   where
     go : T (before t u) ⊎ ((t ≡ u) × (orderOf f g ≡ Earlier)) → degreeOf u ≤ degreeOf t
     go (inl b) = before-degree t u b
     go (inr d) = omega (arith, ap degreeOf (d .0))
 
-behind-degree : (n t : ℕ) (f : List ℕ) (L : List Line) → Every (λ g. T (isPolynomial n g)) L → Behind (t ∷ f) L → degreeIn L ≤ degreeOf t
+behind-degree : (t : ℕ) (f : List ℕ) (L : List Line) → Every Ordered L → Behind (t ∷ f) L → degreeIn L ≤ degreeOf t
 unfolding degreeIn
-behind-degree n t f [] e b = omega arith
-behind-degree n t f (line g u ∷ L) e b = omega (arith, earlier-degree n t f g (e .0) (b .0), behind-degree n t f L (e .1) (b .1))
+behind-degree t f [] e b = omega arith
+behind-degree t f (line g u ∷ L) e b = omega (arith, earlier-degree t f g (e .0) (b .0), behind-degree t f L (e .1) (b .1))
 
-pub degree-first : (n t : ℕ) (f : List ℕ) (w : ℤ) (L : List Line) → T (linesFit n (line (t ∷ f) w ∷ L)) → degreeIn (line (t ∷ f) w ∷ L) ≡ degreeOf t
+pub degree-first : (t : ℕ) (f : List ℕ) (w : ℤ) (L : List Line) → InOrder (line (t ∷ f) w ∷ L) → Every Ordered (line (t ∷ f) w ∷ L)
+    → degreeIn (line (t ∷ f) w ∷ L) ≡ degreeOf t
 unfolding degreeIn
-degree-first n t f w L h =
-    let e : Every (λ g. T (isPolynomial n g)) (line (t ∷ f) w ∷ L) = fit-every n (line (t ∷ f) w ∷ L) h in
-    omega (arith, head-degree n t f (e .0), behind-degree n t f L (e .1) (fit-ordered n (line (t ∷ f) w ∷ L) h .1 .1 .0))
+degree-first t f w L h e = omega (arith, head-degree t f (e .0), behind-degree t f L (e .1) (h .1 .1 .0))
 
 -- ---- the largest degree of a term, 0 where there is no line
 -- what holds of some term of some line
@@ -75,12 +74,16 @@ abbrev pub SomeLine : (List ℕ → Type 0) → List Line → Type 0
 SomeLine P [] = ⊥
 SomeLine P (line f w ∷ L) = P f ⊎ SomeLine P L
 
+-- the terms of lines that fit stand in order
+pub terms-ordered : (n : ℕ) (L : List Line) → T (linesFit n L) → Every Ordered L
+terms-ordered n L h = every-map (λ f. T (isPolynomial n f)) Ordered (polynomial-sorted n) L (fit-every n L h)
+
 pub degree-holds : (n : ℕ) (L : List Line) → T (linesFit n L) → Every (λ f. All (λ t. degreeOf t ≤ degreeIn L) f) L
     × (((L ≡ []) × (degreeIn L ≡ 0)) ⊎ SomeLine (λ f. Some (λ t. degreeOf t ≡ degreeIn L) f) L)
 unfolding degreeIn
-degree-holds n L h = (lines-bound (degreeIn L) L (omega arith), reached L h)
+degree-holds n L h = (lines-bound (degreeIn L) L (omega arith), reached L (fit-ordered n L h) (terms-ordered n L h))
   where
-    reached : (L : List Line) → T (linesFit n L) → ((L ≡ []) × (degreeIn L ≡ 0)) ⊎ SomeLine (λ f. Some (λ t. degreeOf t ≡ degreeIn L) f) L
-    reached [] h = inl (refl, refl)
-    reached (line [] w ∷ L) h = absurd (fit-ordered n (line [] w ∷ L) h .0)
-    reached (line (t ∷ f) w ∷ L) h = inr (inl (inl (sym (degree-first n t f w L h))))
+    reached : (L : List Line) → InOrder L → Every Ordered L → ((L ≡ []) × (degreeIn L ≡ 0)) ⊎ SomeLine (λ f. Some (λ t. degreeOf t ≡ degreeIn L) f) L
+    reached [] h e = inl (refl, refl)
+    reached (line [] w ∷ L) h e = absurd (h .0)
+    reached (line (t ∷ f) w ∷ L) h e = inr (inl (inl (sym (degree-first t f w L h e))))

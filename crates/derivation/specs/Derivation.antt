@@ -1,28 +1,29 @@
 -- Checking a derivation: the records of document 01's derivation, what is refused, and what is confirmed.
 use mathlib.Core.Bool.{Bool, true, false, cond, not, _&&_}
 use mathlib.Core.List.{List, [], _∷_}
-use Prim.Native.Nat.{ℕ, suc, _+_, max}
+use Prim.Native.Nat.{ℕ, _+_, max}
 use lib.Dec.{eqb}
 use lib.IntN.{ℤ, pos}
 use lib.Signed.{leZ}
 use lib.ListN.{getD}
+use Rattle.refusal.specs.Outcome.{Outcome, accepted, refused, unless, mapped, Told, answered, refusedAt}
 use Rattle.term.specs.Term.{degreeOf}
 use Rattle.polynomial.specs.Polynomial.{ZERO, ONE}
 use Rattle.configuration.specs.Weight.{limit}
 use Rattle.configuration.specs.Configuration.{Line, line, some, weight, anyNegative}
-use Rattle.configuration.specs.Memory.{Memory, linesOf, imageOf, sized, wellFormed}
-use Rattle.configuration.specs.Replacement.{Step, taken, refused}
+use Rattle.configuration.specs.Made.{Made}
 use Rattle.refusal.specs.Refusal.{numberOf}
 use Rattle.calculus.specs.Calculus.{step}
 use Rattle.calculus.specs.declared.Rule.{Rule}
 use Rattle.calculus.specs.declared.Rule.the-variants.{Sum, Prod}
 use Rattle.calculus.specs.declared.Mode.{Mode}
 use Rattle.calculus.specs.declared.Mode.the-variants.{Plain, Signed}
+use Rattle.record.specs.Letters.{letterN, letterZ, letterM, letterK, letterS, letterP, letterB}
 use Rattle.record.specs.Record.{whole, signedAt}
-use Rattle.walk.specs.Walk.{Outcome, accepted, turnedDown, unless, mapped, Progress, past, Reader, Stop, nothing, refusedFor, Walked, readAll}
+use Rattle.walk.specs.Walk.{Progress, past, Reader, readAll, verdict}
 use Rattle.walk.specs.Work.{termAdded}
-use Rattle.derivation.specs.declared.Answer.{Answer}
-use Rattle.derivation.specs.declared.Answer.the-variants.{Confirmed, Refused}
+use Rattle.derivation.specs.declared.CheckAnswer.{CheckAnswer}
+use Rattle.derivation.specs.declared.CheckAnswer.the-variants.{Confirmed, Refused}
 
 -- what the accepted records made: whether N or Z was among them, and the mode; whether f is set, and f (0 where it is not); the work polynomial; the
 -- lines; whether B was among them, and the claim
@@ -93,9 +94,8 @@ onChoice p =
     (accepted (past p 1 (having true (x .work) ZERO (x .lines) x)))
 
 -- the lines that a step leaves; f and the work polynomial are cleared
-abbrev pub stepped : Progress State → Step → Outcome (Progress State)
-stepped p (taken L) = accepted (past p 9 (having false ZERO ZERO L (p .state)))
-stepped p (refused n) = turnedDown n
+abbrev pub afterStep : Progress State → Outcome (List Line) → Outcome (Progress State)
+afterStep p o = mapped (λ L. past p 9 (having false ZERO ZERO L (p .state))) o
 
 -- S, P: a step of f with the work polynomial
 abbrev pub onStep : Rule → List ℕ → Progress State → Outcome (Progress State)
@@ -103,7 +103,7 @@ onStep r s p =
     let x = p .state in
     unless (going x && x .chosen) 4
     (unless (whole 8 s (p .at + 1)) 3
-    (stepped p (step r (x .mode) (x .first) (x .work) (signedAt s (p .at + 1)) (x .lines))))
+    (afterStep p (step r (x .mode) (x .first) (x .work) (signedAt s (p .at + 1)) (x .lines))))
 
 -- a claim is from 0 to 10^12
 abbrev pub claimFits : ℤ → Bool
@@ -125,14 +125,14 @@ onClaim s p =
 unfoldable pub onRecord : ℕ → List ℕ → Progress State → Outcome (Progress State)
 onRecord n s p =
     let kind = getD s (p .at) 0 in
-    cond (eqb kind 78) (onMode Plain p)
-    (cond (eqb kind 90) (onMode Signed p)
-    (cond (eqb kind 77) (onTerm n s p)
-    (cond (eqb kind 75) (onChoice p)
-    (cond (eqb kind 83) (onStep Sum s p)
-    (cond (eqb kind 80) (onStep Prod s p)
-    (cond (eqb kind 66) (onClaim s p)
-    (turnedDown 4)))))))
+    cond (eqb kind letterN) (onMode Plain p)
+    (cond (eqb kind letterZ) (onMode Signed p)
+    (cond (eqb kind letterM) (onTerm n s p)
+    (cond (eqb kind letterK) (onChoice p)
+    (cond (eqb kind letterS) (onStep Sum s p)
+    (cond (eqb kind letterP) (onStep Prod s p)
+    (cond (eqb kind letterB) (onClaim s p)
+    (refused 4)))))))
 
 -- at the end of the bytes B must have come
 abbrev pub checking : ℕ → Reader State
@@ -147,40 +147,26 @@ unfoldable pub degreeIn : List Line → ℕ
 degreeIn [] = 0
 degreeIn (line f w ∷ L) = max (degreeMax f) (degreeIn L)
 
--- ---- checking in lent memory
-pub data Told : Type 0 where
-  confirmed : ℤ → ℕ → Told
-  refusedAt : ℕ → ℕ → Told
+-- ---- what a check makes of its bytes and a configuration of n variables
+-- a claim that is confirmed, and the degree
+pub record Confirmation : Type 0 where
+  pub claim : ℤ
+  pub degree : ℕ
 
--- the paper's words for an answer: claim and degree, or the record that a refusal names and its number
-abbrev pub toldOf : Answer → Told
-toldOf (Confirmed claim degree) = confirmed claim degree
-toldOf (Refused k reason) = refusedAt k (numberOf reason)
+abbrev pub confirmed : ℤ → ℕ → Told Confirmation
+confirmed w d = answered (record { claim = w; degree = d })
 
--- "names the number of records accepted before it plus one"
-abbrev pub verdict : Progress State → Stop → Told
-verdict p nothing = confirmed (p .state .claim) (degreeIn (p .state .lines))
-verdict p (refusedFor n) = refusedAt (suc (p .records)) n
+unfoldable pub checkDerivation : List ℕ → ℕ → List Line → Made Confirmation
+checkDerivation s n L =
+    let r = readAll (checking n) s (fresh L) in
+    let x = r .reached .state in
+    record {
+      variables = n;
+      lines = x .lines;
+      told = verdict (r .reached .records) (record { claim = x .claim; degree = degreeIn (x .lines) }) (r .stop);
+    }
 
-pub record Left : Type 0 where
-  pub memory : Memory
-  pub told : Told
-
-abbrev pub leftOf : Memory → Answer → Left
-leftOf m a = record { memory = m; told = toldOf a }
-
--- the areas hold what the accepted records made
-abbrev pub leaves : ℕ → Walked (Progress State) → Left
-leaves n r = record { memory = imageOf 128 n (r .reached .state .lines); told = verdict (r .reached) (r .stop) }
-
--- the check of a derivation in memory that is known to be well formed
-abbrev pub checked : List ℕ → Memory → Left
-checked s m = leaves (m .variables) (readAll (checking (m .variables)) s (fresh (linesOf m)))
-
--- nothing is changed where the lent memory is refused
-abbrev pub lentUnless : Bool → ℕ → Memory → Left → Left
-lentUnless true n m left = left
-lentUnless false n m left = record { memory = m; told = refusedAt 0 n }
-
-unfoldable pub checkDerivation : List ℕ → Memory → Left
-checkDerivation s m = lentUnless (sized 128 m) 1 m (lentUnless (wellFormed m) 2 m (checked s m))
+-- the paper's words for an answer
+abbrev pub toldOfCheck : CheckAnswer → Told Confirmation
+toldOfCheck (Confirmed w d) = confirmed w d
+toldOfCheck (Refused k reason) = refusedAt k (numberOf reason)

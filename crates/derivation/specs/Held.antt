@@ -1,25 +1,43 @@
--- How code holds the progress of a check: the lines in the lent areas, by an index, f and the work polynomial at the fronts of two areas of 64 terms, the rest by value.
+-- How code tells records apart, and holds the progress of a check: the lines in a table, f and the work polynomial at the fronts of two areas of 64 terms, the rest by
+-- value.
 use mathlib.Core.Path.{_≡_}
-use mathlib.Core.Bool.{Bool, true}
+use mathlib.Core.Bool.{Bool, true, false, cond}
 use mathlib.Core.List.{List}
 use Prim.Native.Nat.{ℕ, _+_, _≤_}
-use lib.Dec.{T}
-use lib.IntN.{ℤ}
+use lib.Dec.{T, eqb}
+use lib.IntN.{ℤ, pos}
 use lib.ListN.{length, take}
-use denote.Ref.{RefT, now}
-use denote.Triple.Both.{Both}
-use Rattle.configuration.specs.Configuration.{isPolynomial}
-use Rattle.configuration.specs.Memory.{wellFormed}
-use Rattle.configuration.specs.Index.{indexedOf, linesBy, Kept}
-use Rattle.configuration.specs.Table.{Table}
-use Rattle.configuration.specs.declared.Head.{Head}
+use Rattle.refusal.specs.Outcome.{Outcome, Reached, after, stopOf}
+use Rattle.polynomial.specs.Polynomial.{ZERO}
+use Rattle.configuration.specs.Configuration.{weightsFit}
+use Rattle.table.specs.Rows.{Table, withLines, linesOf, Fits}
+use Rattle.calculus.specs.declared.Rule.the-variants.{Sum, Prod}
+use Rattle.calculus.specs.declared.Mode.the-variants.{Plain, Signed}
+use Rattle.step.specs.Stepping.{Operand}
+use Rattle.record.specs.Letters.{letterN, letterZ, letterM, letterK, letterS, letterP, letterB}
 use Rattle.derivation.specs.Derivation.{State}
+use Rattle.derivation.specs.declared.Kind.{Kind}
+use Rattle.derivation.specs.declared.Kind.the-variants.{Start, Term, Choice, Step, Claim, Unknown}
 use Rattle.derivation.specs.declared.Progress.{Progress}
-use Rattle.derivation.specs.declared.Step.{Step}
+use Rattle.derivation.specs.declared.Recorded.{Recorded}
 use Rattle.walk.specs.Walk as W
 
-abbrev pub progressOf : Progress → List ℕ → List ℕ → List ℕ → List ℕ → List ℤ → List ℕ → W.Progress State
-progressOf p fs us is ts ws cs = record {
+-- ---- the kind of a letter
+abbrev pub kindOf : ℕ → Kind
+kindOf b =
+    cond (eqb b letterN) (Start Plain)
+    (cond (eqb b letterZ) (Start Signed)
+    (cond (eqb b letterM) Term
+    (cond (eqb b letterK) Choice
+    (cond (eqb b letterS) (Step Sum)
+    (cond (eqb b letterP) (Step Prod)
+    (cond (eqb b letterB) Claim
+    Unknown))))))
+
+-- ---- progress, where it stands
+-- where the areas are those of t, and the progress tells how many lines there are
+abbrev pub progressIn : Progress → List ℕ → List ℕ → Table → W.Progress State
+progressIn p fs us t = record {
   at = p .at;
   records = p .records;
   state = record {
@@ -28,23 +46,34 @@ progressOf p fs us is ts ws cs = record {
     chosen = p .chosen;
     first = take (p .first) fs;
     work = take (p .work) us;
-    lines = linesBy (p .head) is ts ws cs;
+    lines = linesOf (withLines (p .lines) t);
     closed = p .closed;
     claim = p .claim;
   };
 }
 
--- the same where the lines stand in a table
-abbrev pub progressIn : Progress → List ℕ → List ℕ → Table → W.Progress State
-progressIn p fs us t = progressOf p fs us (t .index) (t .terms) (t .weights) (t .counts)
-
 -- what a record leaves: how far the check has come, and what stops it
-abbrev pub leftBy : Step → List ℕ → List ℕ → List ℕ → List ℕ → List ℤ → List ℕ → W.Walked (W.Progress State)
-leftBy r fs us is ts ws cs = record { reached = progressOf (r .progress) fs us is ts ws cs; stop = W.stopOf (r .turn) }
+abbrev pub leftIn : Recorded → List ℕ → List ℕ → Table → Reached (W.Progress State)
+leftIn r fs us t = record { reached = progressIn (r .progress) fs us t; stop = stopOf (r .objection) }
 
--- the progress after a record of so many bytes: f, set or not, and the work polynomial have so many terms
-abbrev pub passed : Progress → ℕ → Bool → ℕ → ℕ → Head → Progress
-passed p size chosen first work head = record {
+-- the progress before the first record, where the table has so many lines
+abbrev pub openingOf : ℕ → Progress
+openingOf lines = record {
+  at = 0;
+  records = 0;
+  started = false;
+  mode = Plain;
+  chosen = false;
+  first = length ZERO;
+  work = length ZERO;
+  lines = lines;
+  closed = false;
+  claim = pos 0;
+}
+
+-- the progress after a record of so many bytes: f, set or not, and the work polynomial have so many terms, and the table so many lines
+abbrev pub passed : Progress → ℕ → Bool → ℕ → ℕ → ℕ → Progress
+passed p size chosen first work lines = record {
   at = p .at + size;
   records = p .records + 1;
   started = p .started;
@@ -52,7 +81,7 @@ passed p size chosen first work head = record {
   chosen = chosen;
   first = first;
   work = work;
-  head = head;
+  lines = lines;
   closed = p .closed;
   claim = p .claim;
 }
@@ -67,49 +96,28 @@ closing p w = record {
   chosen = p .chosen;
   first = p .first;
   work = p .work;
-  head = p .head;
+  lines = p .lines;
   closed = true;
   claim = w;
 }
 
--- what holds before each record of a check over n variables
-pub record Ready (n : ℕ) (p : Progress) (fs us is ts : List ℕ) (ws : List ℤ) (cs : List ℕ) : Type 0 where
-  pub kept : Kept 128 (p .head) is ts ws cs
-  pub well : T (wellFormed (indexedOf (p .head) is ts ws cs))
-  pub variables : p .head .variables ≡ n
-  pub operand : T (isPolynomial n (take (p .first) fs))
-  pub polynomial : T (isPolynomial n (take (p .work) us))
+-- ---- what holds before each record
+pub record Ready (p : Progress) (fs us : List ℕ) (t : Table) : Type 0 where
+  pub fits : Fits 128 t
   pub first-area : length fs ≡ 64
   pub first-room : p .first ≤ 64
   pub area : length us ≡ 64
   pub room : p .work ≤ 64
   pub counted : p .records ≤ p .at
 
--- ---- a record that touches no line, in whatever areas the lines stand; f and the work polynomial stand in fs and us before it, in gs and vs after it
--- it does what a definition says
-abbrev pub Does : (W.Progress State → W.Outcome (W.Progress State)) → Progress → List ℕ → List ℕ → Step → List ℕ → List ℕ → Type 0
-Does on p fs us r gs vs = (is ts : List ℕ) (ws : List ℤ) (cs : List ℕ) → Ready (p .head .variables) p fs us is ts ws cs
-    → leftBy r gs vs is ts ws cs ≡ W.after (progressOf p fs us is ts ws cs) (on (progressOf p fs us is ts ws cs))
+abbrev pub Held : Progress → List ℕ → List ℕ → Table → Type 0
+Held p fs us t = Ready p fs us (withLines (p .lines) t)
 
--- and all is ready for the next
-abbrev pub StaysReady : Progress → List ℕ → List ℕ → Step → List ℕ → List ℕ → Type 0
-StaysReady p fs us r gs vs = (is ts : List ℕ) (ws : List ℤ) (cs : List ℕ) → Ready (p .head .variables) p fs us is ts ws cs
-    → Ready (p .head .variables) (r .progress) gs vs is ts ws cs
+-- what a step asks of f, the work polynomial and the lines
+abbrev pub Usable : State → Type 0
+Usable x = Operand (x .first) × Operand (x .work) × T (weightsFit (x .lines))
 
--- ---- the same of areas for f and the work polynomial, an index and three areas that a function is lent: `At` for what it asks, `Before` and `After` for what it
--- promises
-abbrev pub ReadyAt : ℕ → Progress → RefT (List ℕ) → RefT (List ℕ) → RefT (List ℕ) → RefT (List ℕ) → RefT (List ℤ) → RefT (List ℕ) → Type 0
-ReadyAt n p fs us is ts ws cs = Ready n p (now fs) (now us) (now is) (now ts) (now ws) (now cs)
-
-abbrev pub ReadyAfter : {A B C D E F : Type 0} → ℕ → Progress → Both A (RefT (List ℕ)) → Both B (RefT (List ℕ)) → Both C (RefT (List ℕ)) → Both D (RefT (List ℕ))
-    → Both E (RefT (List ℤ)) → Both F (RefT (List ℕ)) → Type 0
-ReadyAfter n p fs us is ts ws cs = ReadyAt n p (fs .exit) (us .exit) (is .exit) (ts .exit) (ws .exit) (cs .exit)
-
-abbrev pub progressBefore : {A B C D E F : Type 0} → Progress → Both (RefT (List ℕ)) A → Both (RefT (List ℕ)) B → Both (RefT (List ℕ)) C → Both (RefT (List ℕ)) D
-    → Both (RefT (List ℤ)) E → Both (RefT (List ℕ)) F → W.Progress State
-progressBefore p fs us is ts ws cs =
-    progressOf p (now (fs .entry)) (now (us .entry)) (now (is .entry)) (now (ts .entry)) (now (ws .entry)) (now (cs .entry))
-
-abbrev pub leftAfter : {A B C D E F : Type 0} → Step → Both A (RefT (List ℕ)) → Both B (RefT (List ℕ)) → Both C (RefT (List ℕ)) → Both D (RefT (List ℕ))
-    → Both E (RefT (List ℤ)) → Both F (RefT (List ℕ)) → W.Walked (W.Progress State)
-leftAfter r fs us is ts ws cs = leftBy r (now (fs .exit)) (now (us .exit)) (now (is .exit)) (now (ts .exit)) (now (ws .exit)) (now (cs .exit))
+-- ---- a record that code has read leaves what a definition says, and what holds before the next. f, the work polynomial and the table stand in fs, us and t before
+-- it, in gs, vs and u after it.
+abbrev pub Does : (W.Progress State → Outcome (W.Progress State)) → Progress → List ℕ → List ℕ → Table → Recorded → List ℕ → List ℕ → Table → Type 0
+Does on p fs us t r gs vs u = Held p fs us t → (leftIn r gs vs u ≡ after (progressIn p fs us t) (on (progressIn p fs us t))) × Held (r .progress) gs vs u

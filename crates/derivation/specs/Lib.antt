@@ -1,6 +1,5 @@
 pub mod Derivation
 pub mod Held
 pub mod DerivationLaws
-pub mod CostRule
 pub mod DegreeLaws
 pub mod RefusedLaws

@@ -1,40 +1,38 @@
 // What each kind of record does in a derivation. These functions are for `on_record` of this crate alone.
 use crate::Progress;
-use crate::Step;
+use crate::Recorded;
 use calculus::Mode;
 use calculus::Rule;
-use calculus::step::step;
-use configuration::Head;
-use configuration::form::none_negative;
-use configuration::table::weight_of;
 use polynomial::Polynomial;
 use polynomial::area::write;
 use polynomial::front;
 use record::Amount;
 use record::read_amount;
+use refusal::Objection;
 use refusal::Reason;
-use walk::Turn;
+use step::step;
+use table::lines::none_negative;
+use table::lines::weight_of;
 use walk::add_term;
 ghost use mathlib.Core.Path.{_≡_};
-ghost use mathlib.Core.Bool.{true, _&&_, not};
+ghost use mathlib.Core.Bool.{_&&_, not};
 ghost use mathlib.Core.List.{List};
 ghost use Prim.Native.Nat.{ℕ, _+_, _≤_, _<_};
-ghost use lib.Dec.{T, eqb};
+ghost use lib.Dec.{eqb};
 ghost use lib.ListN.{length, take};
-ghost use Rattle.polynomial.specs.Polynomial.{ZERO, ONE};
-ghost use Rattle.configuration.specs.Configuration.{weight, isPolynomial};
-ghost use Rattle.configuration.specs.Table.{tableAt, tableBefore, tableCapacity, tableLines, TableKept, tableFormed};
-ghost use Rattle.walk.specs.Walk.{after};
+ghost use Rattle.polynomial.specs.Polynomial.{ZERO, ONE, Ordered};
+ghost use Rattle.configuration.specs.Configuration.{weight};
+ghost use Rattle.table.specs.Rows.{Table, tableAt, tableBefore, tableAfter, linesOf, Fits};
 ghost use Rattle.derivation.specs.Derivation.{claimFits, onMode, onTerm, onChoice, onStep, onClaim};
-ghost use Rattle.derivation.specs.Held.{passed, closing, Does, StaysReady, ReadyAt, ReadyAfter, progressBefore, leftAfter};
+ghost use Rattle.derivation.specs.Held.{progressIn, passed, closing, Held, Usable, Does};
 
 // A refused record.
-pub fn refused(p: Progress, reason: Reason) -> Step
-    ensures { λ r. ⌜ r ≡ record { progress = p; turn = Turn.Refused reason } ⌝ }
+pub fn refused(p: Progress, reason: Reason) -> Recorded
+    ensures { λ r. ⌜ r ≡ record { progress = p; objection = Objection.Found reason } ⌝ }
 {
-    Step {
+    Recorded {
         progress: p,
-        turn: Turn::Refused(reason),
+        objection: Objection::Found(reason),
     }
 }
 
@@ -61,13 +59,20 @@ fn is_idle(p: Progress) -> bool
     p.work == Polynomial::ZERO.count
 }
 
-// An accepted record of so many bytes, which leaves f, set or not, and a work polynomial, of so many terms, and a head.
-fn accepted(p: Progress, size: usize, chosen: bool, first: usize, work: usize, head: Head) -> Step
+// An accepted record of so many bytes, which leaves f, set or not, and a work polynomial, of so many terms, and so many lines.
+fn accepted(
+    p: Progress,
+    size: usize,
+    chosen: bool,
+    first: usize,
+    work: usize,
+    lines: usize,
+) -> Recorded
     requires { ⌜ (p .at + size < 18446744073709551616) × (p .records < 18446744073709551615) ⌝ }
-    ensures { λ r. ⌜ r ≡ record { progress = passed p size chosen first work head; turn = Turn.Accepted } ⌝ }
+    ensures { λ r. ⌜ r ≡ record { progress = passed p size chosen first work lines; objection = Objection.Nothing } ⌝ }
 {
     let mode = p.mode;
-    Step {
+    Recorded {
         progress: Progress {
             at: p.at + size,
             records: p.records + 1,
@@ -76,25 +81,23 @@ fn accepted(p: Progress, size: usize, chosen: bool, first: usize, work: usize, h
             chosen,
             first,
             work,
-            head,
+            lines,
             closed: p.closed,
             claim: p.claim,
         },
-        turn: Turn::Accepted,
+        objection: Objection::Nothing,
     }
 }
 
 // N, Z: the mode.
-pub fn on_mode(p: Progress, mode: Mode) -> Step
+pub fn on_mode(p: Progress, mode: Mode) -> Recorded
     requires { ⌜ (p .at < 18446744073709551615) × (p .records ≤ p .at) ⌝ }
-    ensures step { λ r. ⌜ ((fs us : List ℕ) → Does (onMode mode) p fs us r fs us) ⌝ }
-    ensures ready { λ r. ⌜ ((fs us : List ℕ) → StaysReady p fs us r fs us) ⌝ }
+    ensures { λ r. ⌜ ((fs us : List ℕ) (t : Table) → Does (onMode mode) p fs us t r fs us t) ⌝ }
 {
     if p.started {
         return refused(p, Reason::Misplaced);
     }
-    let head = p.head;
-    Step {
+    Recorded {
         progress: Progress {
             at: p.at + 1,
             records: p.records + 1,
@@ -103,39 +106,35 @@ pub fn on_mode(p: Progress, mode: Mode) -> Step
             chosen: p.chosen,
             first: p.first,
             work: p.work,
-            head,
+            lines: p.lines,
             closed: p.closed,
             claim: p.claim,
         },
-        turn: Turn::Accepted,
+        objection: Objection::Nothing,
     }
 }
 
 // M: a term is added to the work polynomial.
-pub fn on_term(bytes: &[u8], p: Progress, work: &mut [u32]) -> Step
-    requires { ⌜ (p .at < length (now bytes)) × (p .records ≤ p .at) × (length (now work) ≡ 64) × (p .work ≤ 64)
-        × T (isPolynomial (p .head .variables) (take (p .work) (now work))) ⌝ }
-    ensures step { λ r. let on = onTerm (p .head .variables) (now (bytes .entry)) in
-        ⌜ ((fs : List ℕ) → Does on p fs (now (work .entry)) r fs (now (work .exit))) ⌝ }
-    ensures ready { λ r. ⌜ ((fs : List ℕ) → StaysReady p fs (now (work .entry)) r fs (now (work .exit))) ⌝ }
+pub fn on_term(variables: u32, bytes: &[u8], p: Progress, work: &mut [u32]) -> Recorded
+    requires { ⌜ (p .at < length (now bytes)) × (p .records ≤ p .at) × (length (now work) ≡ 64) × (p .work ≤ 64) × Ordered (take (p .work) (now work)) ⌝ }
+    ensures { λ r. let on = onTerm variables (now (bytes .entry)) in
+        ⌜ ((fs : List ℕ) (t : Table) → Does on p fs (now (work .entry)) t r fs (now (work .exit)) t) ⌝ }
 {
     if !is_going(p) {
         return refused(p, Reason::Misplaced);
     }
-    let head = p.head;
-    let added = add_term(head.variables, bytes, p.at + 1, work, p.work);
-    let turn = added.turn;
-    if let Turn::Refused(reason) = turn {
+    let added = add_term(variables, bytes, p.at + 1, work, p.work);
+    let objection = added.objection;
+    if let Objection::Found(reason) = objection {
         return refused(p, reason);
     }
-    accepted(p, 5, p.chosen, p.first, added.count, head)
+    accepted(p, 5, p.chosen, p.first, added.count, p.lines)
 }
 
 // K: the work polynomial becomes f, and is cleared.
-pub fn on_choice(p: Progress, first: &mut [u32], work: &[u32]) -> Step
+pub fn on_choice(p: Progress, first: &mut [u32], work: &[u32]) -> Recorded
     requires { ⌜ (p .at < 18446744073709551615) × (p .records ≤ p .at) × (length (now first) ≡ 64) × (length (now work) ≡ 64) × (p .work ≤ 64) ⌝ }
-    ensures step { λ r. ⌜ Does onChoice p (now (first .entry)) (now (work .entry)) r (now (first .exit)) (now (work .entry)) ⌝ }
-    ensures ready { λ r. ⌜ StaysReady p (now (first .entry)) (now (work .entry)) r (now (first .exit)) (now (work .entry)) ⌝ }
+    ensures { λ r. let us = now (work .entry) in ⌜ ((t : Table) → Does onChoice p (now (first .entry)) us t r (now (first .exit)) us t) ⌝ }
 {
     if !is_going(p) {
         return refused(p, Reason::Misplaced);
@@ -145,7 +144,7 @@ pub fn on_choice(p: Progress, first: &mut [u32], work: &[u32]) -> Step
     }
     let count = p.work;
     write(first, 0, &work[..count]);
-    accepted(p, 1, true, count, Polynomial::ZERO.count, p.head)
+    accepted(p, 1, true, count, Polynomial::ZERO.count, p.lines)
 }
 
 // S, P: a step of f with the work polynomial; both are cleared.
@@ -154,16 +153,16 @@ pub fn on_step(
     p: Progress,
     first: &[u32],
     work: &[u32],
-    index: &mut [u64],
+    order: &mut [u64],
     terms: &mut [u32],
     weights: &mut [i64],
     counts: &mut [u32],
     rule: Rule,
-) -> Step
-    requires { ⌜ (p .at < length (now bytes)) × ReadyAt (p .head .variables) p first work index terms weights counts ⌝ }
-    ensures step { λ r. let q = progressBefore p first work index terms weights counts in
-        ⌜ leftAfter r first work index terms weights counts ≡ after q (onStep rule (now (bytes .entry)) q) ⌝ }
-    ensures ready { λ r. ⌜ ReadyAfter (p .head .variables) (r .progress) first work index terms weights counts ⌝ }
+) -> Recorded
+    requires { let t = tableAt (p .lines) order terms weights counts in let fs = now first in let us = now work in
+        ⌜ (p .at < length (now bytes)) × Held p fs us t × Usable (progressIn p fs us t .state) ⌝ }
+    ensures { λ r. let fs = now (first .entry) in let us = now (work .entry) in let t = tableBefore (p .lines) order terms weights counts in
+        ⌜ Does (onStep rule (now (bytes .entry))) p fs us t r fs us (tableAfter (r .progress .lines) order terms weights counts) ⌝ }
 {
     if !is_going(p) {
         return refused(p, Reason::Misplaced);
@@ -177,11 +176,10 @@ pub fn on_step(
     };
     let m = p.first;
     let n = p.work;
-    let head = p.head;
     let mode = p.mode;
     let stepped = step(
-        head,
-        index,
+        p.lines,
+        order,
         terms,
         weights,
         counts,
@@ -191,13 +189,12 @@ pub fn on_step(
         &work[..n],
         amount,
     );
-    let left = stepped.head;
-    let answer = stepped.answer;
-    if let calculus::Answer::Refused(_, reason) = answer {
+    let objection = stepped.objection;
+    if let Objection::Found(reason) = objection {
         return refused(p, reason);
     }
     let cleared = Polynomial::ZERO.count;
-    accepted(p, 9, false, cleared, cleared, left)
+    accepted(p, 9, false, cleared, cleared, stepped.lines)
 }
 
 // Whether a claim is from 0 to 10^12.
@@ -211,13 +208,12 @@ fn claim_fits(claim: i64) -> bool
 }
 
 // An accepted claim: the record is the last.
-fn closed_with(p: Progress, claim: i64) -> Step
+fn closed_with(p: Progress, claim: i64) -> Recorded
     requires { ⌜ (p .at + 9 < 18446744073709551616) × (p .records < 18446744073709551615) ⌝ }
-    ensures { λ r. ⌜ r ≡ record { progress = closing p claim; turn = Turn.Accepted } ⌝ }
+    ensures { λ r. ⌜ r ≡ record { progress = closing p claim; objection = Objection.Nothing } ⌝ }
 {
     let mode = p.mode;
-    let head = p.head;
-    Step {
+    Recorded {
         progress: Progress {
             at: p.at + 9,
             records: p.records + 1,
@@ -226,23 +222,23 @@ fn closed_with(p: Progress, claim: i64) -> Step
             chosen: p.chosen,
             first: p.first,
             work: p.work,
-            head,
+            lines: p.lines,
             closed: true,
             claim,
         },
-        turn: Turn::Accepted,
+        objection: Objection::Nothing,
     }
 }
 
 // The weight of the polynomial 1.
-fn weight_of_one(head: Head, index: &[u64], terms: &[u32], weights: &[i64], counts: &[u32]) -> i64
-    requires { let t = tableAt head index terms weights counts in ⌜ TableKept (tableCapacity t) t × T (tableFormed (tableCapacity t) t) ⌝ }
-    ensures { λ r. ⌜ r ≡ weight (tableLines (tableBefore head index terms weights counts)) ONE ⌝ }
+fn weight_of_one(lines: usize, order: &[u64], terms: &[u32], weights: &[i64], counts: &[u32]) -> i64
+    requires { ⌜ Fits 128 (tableAt lines order terms weights counts) ⌝ }
+    ensures { λ r. ⌜ r ≡ weight (linesOf (tableBefore lines order terms weights counts)) ONE ⌝ }
 {
     let one = Polynomial::ONE;
     weight_of(
-        head,
-        index,
+        lines,
+        order,
         terms,
         weights,
         counts,
@@ -254,17 +250,14 @@ fn weight_of_one(head: Head, index: &[u64], terms: &[u32], weights: &[i64], coun
 pub fn on_claim(
     bytes: &[u8],
     p: Progress,
-    first: &[u32],
-    work: &[u32],
-    index: &[u64],
+    order: &[u64],
     terms: &[u32],
     weights: &[i64],
     counts: &[u32],
-) -> Step
-    requires { ⌜ (p .at < length (now bytes)) × ReadyAt (p .head .variables) p first work index terms weights counts ⌝ }
-    ensures step { λ r. let q = progressBefore p first work index terms weights counts in
-        ⌜ leftAfter r first work index terms weights counts ≡ after q (onClaim (now (bytes .entry)) q) ⌝ }
-    ensures ready { λ r. ⌜ ReadyAfter (p .head .variables) (r .progress) first work index terms weights counts ⌝ }
+) -> Recorded
+    requires { ⌜ (p .at < length (now bytes)) × (p .records ≤ p .at) × Fits 128 (tableAt (p .lines) order terms weights counts) ⌝ }
+    ensures { λ r. let t = tableBefore (p .lines) order terms weights counts in
+        ⌜ ((fs us : List ℕ) → Does (onClaim (now (bytes .entry))) p fs us t r fs us t) ⌝ }
 {
     if !is_idle(p) {
         return refused(p, Reason::Misplaced);
@@ -275,11 +268,10 @@ pub fn on_claim(
     if !claim_fits(claim) {
         return refused(p, Reason::OutOfRange);
     }
-    let head = p.head;
-    if !none_negative(weights) {
+    if !none_negative(p.lines, order, weights) {
         return refused(p, Reason::NegativeLine);
     }
-    if weight_of_one(head, index, terms, weights, counts) < claim {
+    if weight_of_one(p.lines, order, terms, weights, counts) < claim {
         return refused(p, Reason::ClaimTooHigh);
     }
     closed_with(p, claim)

@@ -4,24 +4,21 @@ use mathlib.Core.List.{List}
 use Prim.Native.Nat.{ℕ, suc, _+_, _-_, _≤_, _<_}
 use native.Mathlib.Numerals.{add-one}
 use native.Mathlib.Omega.{arith}
-use lib.Dec.{T}
 use lib.ListN.{length, take}
 use Rattle.fnv.specs.Fnv.{basis, addBytes}
 use Rattle.configuration.specs.Configuration.{Line}
-use Rattle.configuration.specs.Memory.{Memory, linesOf, wellFormed}
-use Rattle.configuration.specs.MemoryLaws.{well-formed}
-use Rattle.configuration.proofs.Replacements.{table-length}
+use Rattle.table.specs.Rows.{Table, linesOf, Fits}
+use Rattle.table.specs.RowsLaws.{length-lines}
 use Rattle.listing.specs.Listing.{textOf}
-use Rattle.listing.specs.Code.{codeOf, codesFrom, code-of-lines}
 use Rattle.listing.specs.Writing.{overwritten}
+use Rattle.listing.specs.Code.{codeOf}
+use Rattle.listing.specs.CodeLaws.{codesFrom, code-of-lines}
 use Rattle.listing.proofs.Writes.{written-front}
 
-pub all-left : (m : Memory) (code : ℕ) → T (wellFormed m) → code ≡ basis
-    → codesFrom (suc (m .lines) - 0) 0 code (m .variables) (linesOf m) ≡ codeOf (m .variables) (linesOf m)
-all-left m code t e =
-    let l : suc (m .lines) - 0 ≡ suc (length (linesOf m)) =
-    omega (arith, table-length 128 m (well-formed m t)) in
-    rw (l, e) (code-of-lines (m .variables) (linesOf m))
+pub all-left : (n : ℕ) {t : Table} (q : Fits 128 t) (code : ℕ) → code ≡ basis → codesFrom (suc (t .lines) - 0) 0 code n (linesOf t) ≡ codeOf n (linesOf t)
+all-left n {t} q code e =
+    let l : suc (t .lines) - 0 ≡ suc (length (linesOf t)) = omega (arith, length-lines q) in
+    rw (l, e) (code-of-lines n (linesOf t))
 
 -- the text of the next number is added from the front of the bytes that it was written to
 pub one-less : (lines number code n : ℕ) (L : List Line) (area bytes : List ℕ) (size next : ℕ) → number ≤ lines → size ≡ length (textOf number n L)

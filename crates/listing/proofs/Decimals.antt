@@ -10,14 +10,15 @@ use lib.Dec.{T, ltb, leb·zero}
 use lib.IntN.{ℤ, pos, negsuc, natAbs, _+ℤ_, _-ℤ_}
 use lib.Signed.{mag, leZ, nonNeg}
 use borrow.Author.Tests.{ltb-true, ltb-false, lt-ltb, le-ltb}
-use Rattle.listing.specs.Listing.{decimalIn, decimal, weightText}
+use Rattle.listing.specs.Words.{ascii}
+use Rattle.listing.specs.Listing.{decimalDigit, decimalIn, decimal, weightText}
 
-pub one-digit : (k n : ℕ) → n < 10 → decimalIn k n ≡ (48 + n) ∷ []
+pub one-digit : (k n : ℕ) → n < 10 → decimalIn k n ≡ decimalDigit n ∷ []
 unfolding decimalIn
 one-digit zero n h = rw (mod-eq-of-lt h)
 one-digit (suc k) n h = rw (lt-ltb n 10 h)
 
-more-digits : (k n : ℕ) → 10 ≤ n → decimalIn (suc k) n ≡ decimalIn k (n / 10) ++ ((48 + n % 10) ∷ [])
+more-digits : (k n : ℕ) → 10 ≤ n → decimalIn (suc k) n ≡ decimalIn k (n / 10) ++ (decimalDigit (n % 10) ∷ [])
 unfolding decimalIn
 more-digits k n h = rw (le-ltb n 10 h)
 
@@ -30,14 +31,14 @@ enough (suc k) n h = go (ltb n 10) refl (enough k (n / 10))
     go true e f = one-digit (suc (suc k)) n (ltb-true n 10 e) ∙ sym (one-digit (suc k) n (ltb-true n 10 e))
     go false e f =
         let l : 10 ≤ n = ltb-false n 10 e in
-        more-digits (suc k) n l ∙ ap (λ (x : List ℕ). x ++ ((48 + n % 10) ∷ [])) (f (omega arith)) ∙ sym (more-digits k n l)
+        more-digits (suc k) n l ∙ ap (λ (x : List ℕ). x ++ (decimalDigit (n % 10) ∷ [])) (f (omega arith)) ∙ sym (more-digits k n l)
 
-pub last-digit : (n : ℕ) → 10 ≤ n → n < 2 ^ 64 → decimal n ≡ decimal (n / 10) ++ ((48 + n % 10) ∷ [])
+pub last-digit : (n : ℕ) → 10 ≤ n → n < 2 ^ 64 → decimal n ≡ decimal (n / 10) ++ (decimalDigit (n % 10) ∷ [])
 last-digit n l h =
-    more-digits 18 n l ∙ ap (λ (x : List ℕ). x ++ ((48 + n % 10) ∷ [])) (sym (enough 18 (n / 10) (omega arith)))
+    more-digits 18 n l ∙ ap (λ (x : List ℕ). x ++ (decimalDigit (n % 10) ∷ [])) (sym (enough 18 (n / 10) (omega arith)))
 
-pub two-digits : (n : ℕ) → 10 ≤ n → n < 100 → decimal n ≡ (48 + n / 10) ∷ (48 + n % 10) ∷ []
-two-digits n l h = last-digit n l (omega arith) ∙ ap (λ (x : List ℕ). x ++ ((48 + n % 10) ∷ [])) (one-digit 19 (n / 10) (omega arith))
+pub two-digits : (n : ℕ) → 10 ≤ n → n < 100 → decimal n ≡ decimalDigit (n / 10) ∷ decimalDigit (n % 10) ∷ []
+two-digits n l h = last-digit n l (omega arith) ∙ ap (λ (x : List ℕ). x ++ (decimalDigit (n % 10) ∷ [])) (one-digit 19 (n / 10) (omega arith))
 
 -- ---- a weight is its sign and a number; a negative one is -1 less a number
 pub positive : (w : ℤ) → leZ (pos 0) w ≡ true → mag w < 2 ^ 63 → T (nonNeg w) × (natAbs w < 2 ^ 64) × (weightText w ≡ decimal (natAbs w))
@@ -64,7 +65,7 @@ pub record Negative (w : ℤ) : Type 0 where
   pub rest-fits : mag (rest w) < 2 ^ 63
   pub rest-positive : T (nonNeg (rest w))
   pub rest-small : natAbs (rest w) < 2 ^ 63
-  pub text : weightText w ≡ 45 ∷ decimal (natAbs (rest w) + 1)
+  pub text : weightText w ≡ ascii "-" ++ decimal (natAbs (rest w) + 1)
 
 pub negative : (w : ℤ) → leZ (pos 0) w ≡ false → mag w < 2 ^ 63 → Negative w
 negative (pos n) e h = let z : _≡_ {A = ℕ} 0 1 = cc (leb·zero n) in let f : ⊥ = omega arith in absurd f

@@ -1,6 +1,6 @@
-pub mod Answers
 pub mod Codes
 pub mod Decimals
 pub mod Lines
+pub mod Listings
 pub mod Names
 pub mod Writes

@@ -12,7 +12,8 @@ use lib.Seq.{drop-cons}
 use lib.IntN.{ℤ}
 use borrow.Author.Tests.{eq-eqb, ne-eqb}
 use Rattle.configuration.specs.Configuration.{line}
-use Rattle.listing.specs.Listing.{decimal, joined, namesFrom, termText, weightText, lineText, headerText}
+use Rattle.listing.specs.Words.{ascii}
+use Rattle.listing.specs.Listing.{decimal, weightText, joined, nameText, namesFrom, namesText, termText, termsText, lineText, headerText}
 use Rattle.listing.specs.Writing.{starred}
 
 -- texts, each with something in front
@@ -28,8 +29,8 @@ joined-trailing between x (y ∷ xs) =
 
 -- ---- the names that are left, where the first of them stands first in its term or not
 abbrev pub names : Bool → List (List ℕ) → List ℕ
-names true xs = joined (42 ∷ []) xs
-names false xs = trailing (42 ∷ []) xs
+names true xs = joined (ascii "*") xs
+names false xs = trailing (ascii "*") xs
 
 no-names : (first : Bool) → names first [] ≡ []
 unfolding joined trailing
@@ -38,7 +39,7 @@ no-names false = refl
 
 first-name : (first : Bool) (x : List ℕ) (xs : List (List ℕ)) → names first (x ∷ xs) ≡ starred first x ++ names false xs
 unfolding trailing
-first-name true x xs = joined-trailing (42 ∷ []) x xs
+first-name true x xs = joined-trailing (ascii "*") x xs
 first-name false x xs = refl
 
 -- the mask 0 has none
@@ -55,7 +56,7 @@ record Next (d i m t : ℕ) : Type 0 where
   pub left : ℕ
   pub place : t + suc left ≡ d
   pub small : m / 2 ^ t / 2 < 2 ^ left
-  pub text : namesFrom d i m ≡ (120 ∷ decimal (i + t)) ∷ namesFrom left (suc (i + t)) (m / 2 ^ t / 2)
+  pub text : namesFrom d i m ≡ nameText (i + t) ∷ namesFrom left (suc (i + t)) (m / 2 ^ t / 2)
 
 next : (k d i m : ℕ) → d ≤ k → m < 2 ^ d → (m ≡ 0 → ⊥) → Next d i m (trailingZeros k m)
 unfolding trailingZeros namesFrom
@@ -89,7 +90,7 @@ next (suc k) (suc d) i m l h n =
 pub record There (i m : ℕ) (first : Bool) (j later : ℕ) : Type 0 where
   pub within : j ≤ 32
   pub small : later < 2 ^ (32 - j)
-  pub text : names first (namesFrom (32 - i) (i + 1) m) ≡ starred first (120 ∷ decimal j) ++ names false (namesFrom (32 - j) (j + 1) later)
+  pub text : names first (namesFrom (32 - i) (i + 1) m) ≡ starred first (nameText j) ++ names false (namesFrom (32 - j) (j + 1) later)
 
 pub name-there : (i m : ℕ) (first : Bool) → i ≤ 32 → m < 2 ^ (32 - i) → (m ≡ 0 → ⊥)
     → There i m first (i + (trailingZeros 32 m + 1)) (m / 2 ^ trailingZeros 32 m / 2)
@@ -99,17 +100,17 @@ name-there i m first l h n =
     let j : ℕ = i + (t + 1) in
     let d : x .left ≡ 32 - j = omega (arith, x .place) in
     let p : i + 1 + t ≡ j = omega arith in
-    let e : namesFrom (32 - i) (i + 1) m ≡ (120 ∷ decimal j) ∷ namesFrom (32 - j) (j + 1) (m / 2 ^ t / 2) =
+    let e : namesFrom (32 - i) (i + 1) m ≡ nameText j ∷ namesFrom (32 - j) (j + 1) (m / 2 ^ t / 2) =
     rw (← d, ← p, add-one (i + 1 + t)) (x .text) in
     record {
       within = omega (arith, x .place);
       small = rw (← d) (x .small);
-      text = ap (names first) e ∙ first-name first (120 ∷ decimal j) (namesFrom (32 - j) (j + 1) (m / 2 ^ t / 2));
+      text = ap (names first) e ∙ first-name first (nameText j) (namesFrom (32 - j) (j + 1) (m / 2 ^ t / 2));
     }
 
 -- ---- the terms that are left, from the place i on
 abbrev pub plus : List ℕ
-plus = 32 ∷ 43 ∷ 32 ∷ []
+plus = ascii " + "
 
 abbrev pub spread : ℕ → List (List ℕ) → List ℕ
 spread zero xs = joined plus xs
@@ -148,11 +149,11 @@ module _ (f : List ℕ) (i : ℕ) where
       go (suc k) = refl
 
 -- ---- a term is 1 or its variables
-pub text-of-one : (t : ℕ) → t ≡ 0 → termText t ≡ 49 ∷ []
+pub text-of-one : (t : ℕ) → t ≡ 0 → termText t ≡ ascii "1"
 unfolding termText
 text-of-one t e = rw (eq-eqb t 0 e)
 
-pub text-of-names : (t : ℕ) → (t ≡ 0 → ⊥) → termText t ≡ joined (42 ∷ []) (namesFrom 32 1 t)
+pub text-of-names : (t : ℕ) → (t ≡ 0 → ⊥) → termText t ≡ namesText t
 unfolding termText
 text-of-names t e = rw (ne-eqb t 0 e)
 
@@ -160,16 +161,10 @@ text-of-names t e = rw (ne-eqb t 0 e)
 pub regroup : (a b c d e : List ℕ) → ((a ++ b) ++ c) ++ d ++ e ≡ a ++ (b ++ (c ++ (d ++ e)))
 regroup a b c d e = simp append-assoc
 
-pub line-parts : (f : List ℕ) (w : ℤ) → lineText (line f w) ≡ weightText w ++ ((58 ∷ 32 ∷ []) ++ (joined plus (map termText f) ++ (10 ∷ [])))
+pub line-parts : (f : List ℕ) (w : ℤ) → lineText (line f w) ≡ weightText w ++ (ascii ": " ++ (termsText f ++ ascii "\n"))
 unfolding lineText
 line-parts f w = simp append-assoc
 
-abbrev pub word-variables : List ℕ
-word-variables = 118 ∷ 97 ∷ 114 ∷ 105 ∷ 97 ∷ 98 ∷ 108 ∷ 101 ∷ 115 ∷ 32 ∷ []
-
-abbrev pub word-lines : List ℕ
-word-lines = 10 ∷ 108 ∷ 105 ∷ 110 ∷ 101 ∷ 115 ∷ 32 ∷ []
-
-pub header-parts : (n k : ℕ) → headerText n k ≡ word-variables ++ (decimal n ++ (word-lines ++ (decimal k ++ (10 ∷ []))))
+pub header-parts : (n k : ℕ) → headerText n k ≡ ascii "variables " ++ (decimal n ++ (ascii "\nlines " ++ (decimal k ++ ascii "\n")))
 unfolding headerText
-header-parts n k = regroup word-variables (decimal n) word-lines (decimal k) (10 ∷ [])
+header-parts n k = regroup (ascii "variables ") (decimal n) (ascii "\nlines ") (decimal k) (ascii "\n")

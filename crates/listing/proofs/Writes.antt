@@ -44,7 +44,7 @@ behind a at x y h =
     ∙ ap (λ (k : ℕ). take at a ++ ((x ++ y) ++ drop k a)) (sym s)
 
 -- writing a text at the front of the part from a place on is writing it at that place
-pub part-written : (a : List ℕ) (at : ℕ) (x ys : List ℕ) → at ≤ length a → ys ≡ overwritten (midOf at (length a - at) a) 0 x
+part-written : (a : List ℕ) (at : ℕ) (x ys : List ℕ) → at ≤ length a → ys ≡ overwritten (midOf at (length a - at) a) 0 x
     → putMid at (length a - at) a ys ≡ overwritten a at x
 part-written a at x ys h e =
     let n : ℕ = length a - at in
@@ -91,6 +91,13 @@ module _ (a : List ℕ) (at : ℕ) (whole b : List ℕ) (end : ℕ) where
         kept = ap length (e .1) ∙ overwritten-long b end x f ∙ s .kept;
         same = rw (e .1, e .0) (behind b end x rest (omega arith) ∙ s .same);
       }
+
+  -- the same, where it is written at the front of the part from the end of what stands on
+  pub part-next : (x rest ys : List ℕ) (k : ℕ) → Still a at whole b end (x ++ rest) → k ≡ length x → ys ≡ overwritten (midOf end (length b - end) b) 0 x
+      → Still a at whole (putMid end (length b - end) b ys) (end + k) rest
+  part-next x rest ys k s e p =
+      next-written x rest (putMid end (length b - end) b ys) (end + k) s
+      (ap (λ (n : ℕ). end + n) e, part-written b end x ys (omega (arith, next-fits x rest s)) p)
 
   -- nothing is left
   pub none-left : (rest : List ℕ) → rest ≡ [] → Still a at whole b end rest → (end ≡ at + length whole) × (b ≡ overwritten a at whole)

@@ -1,4 +1,6 @@
 pub mod Code
+pub mod CodeLaws
 pub mod Listing
 pub mod ListingLaws
+pub mod Words
 pub mod Writing

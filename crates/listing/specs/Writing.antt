@@ -3,6 +3,7 @@ use mathlib.Core.Bool.{Bool, true, false}
 use mathlib.Core.List.{List, _∷_, _++_}
 use Prim.Native.Nat.{ℕ, _+_}
 use lib.ListN.{length, take, drop}
+use Rattle.listing.specs.Words.{letter}
 
 abbrev pub overwritten : List ℕ → ℕ → List ℕ → List ℕ
 overwritten area at text = take at area ++ (text ++ drop (at + length text) area)
@@ -10,4 +11,4 @@ overwritten area at text = take at area ++ (text ++ drop (at + length text) area
 -- a name that stands first in its term, or behind an asterisk
 abbrev pub starred : Bool → List ℕ → List ℕ
 starred true name = name
-starred false name = 42 ∷ name
+starred false name = letter "*" ∷ name

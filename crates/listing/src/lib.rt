@@ -2,32 +2,22 @@
 pub mod code;
 pub mod text;
 
-use configuration::Head;
-use configuration::form::well_formed;
-use configuration::table::row;
-use refusal::Reason;
+use table::lines::row;
+use table::order::row_at;
 use text::put_bytes;
 use text::put_decimal;
 use text::put_terms;
 use text::put_weight;
 ghost use mathlib.Core.Path.{_≡_};
 ghost use Prim.Native.Nat.{_+_, _≤_};
-ghost use lib.Dec.{T};
 ghost use lib.ListN.{length};
 ghost use Rattle.configuration.specs.Configuration.{line};
-ghost use Rattle.configuration.specs.Memory.{linesOf, wellFormed};
-ghost use Rattle.configuration.specs.Table.{memoryAt, memoryBefore};
-ghost use Rattle.listing.specs.Listing.{headerText, lineText, textOf, listed, leftOf, writeLine};
+ghost use Rattle.table.specs.Rows.{tableAt, tableBefore, linesOf, Fits};
+ghost use Rattle.listing.specs.Listing.{headerText, lineText, textOf, listingOf};
 ghost use Rattle.listing.specs.Writing.{overwritten};
 
-// What writing a line answers: the length of its text. A refusal names record 0, and its reason.
-pub enum Answer {
-    Written(usize),
-    Refused(u64, Reason),
-}
-
 // The two lines of the header, at the front of the bytes.
-fn put_header(out: &mut [u8], variables: u32, lines: u32) -> usize
+fn put_header(out: &mut [u8], variables: u32, lines: usize) -> usize
     requires { ⌜ 8448 ≤ length (now out) ⌝ }
     ensures end { λ r. ⌜ r ≡ length (headerText variables lines) ⌝ }
     ensures text { λ _. ⌜ now (out .exit) ≡ overwritten (now (out .entry)) 0 (headerText variables lines) ⌝ }
@@ -51,86 +41,64 @@ fn put_line(out: &mut [u8], f: &[u32], weight: i64) -> usize
     put_bytes(out, ended, b"\n")
 }
 
-// The line of a number, at the front of the bytes: 0 is the header, and the lines are numbered from 1.
-fn put_text(
+// The line of a number, at the front of the bytes: 0 is the header, and the lines are numbered from 1. It is for this crate and
+// for `checker`, whose tables fit and who tests the number.
+pub fn put_text(
     out: &mut [u8],
-    head: Head,
+    variables: u32,
+    lines: usize,
+    order: &[u64],
     terms: &[u32],
     weights: &[i64],
     counts: &[u32],
     number: usize,
 ) -> usize
-    requires { ⌜ T (wellFormed (memoryAt head terms weights counts)) × (number ≤ head .lines) × (8448 ≤ length (now out)) ⌝ }
-    ensures end { λ r. let L = linesOf (memoryBefore head terms weights counts) in ⌜ r ≡ length (textOf number (head .variables) L) ⌝ }
-    ensures text { λ _. let L = linesOf (memoryBefore head terms weights counts) in
-        ⌜ now (out .exit) ≡ overwritten (now (out .entry)) 0 (textOf number (head .variables) L) ⌝ }
+    requires { ⌜ Fits 128 (tableAt lines order terms weights counts) × (number ≤ lines) × (8448 ≤ length (now out)) ⌝ }
+    ensures end { λ r. let L = linesOf (tableBefore lines order terms weights counts) in ⌜ r ≡ length (textOf number variables L) ⌝ }
+    ensures text { λ _. let L = linesOf (tableBefore lines order terms weights counts) in
+        ⌜ now (out .exit) ≡ overwritten (now (out .entry)) 0 (textOf number variables L) ⌝ }
     ensures room { λ r. ⌜ r ≤ 8448 ⌝ }
 {
     if number == 0 {
-        return put_header(out, head.variables, head.lines);
+        return put_header(out, variables, lines);
     }
-    let i = number - 1;
-    let count = counts[i] as usize;
-    put_line(out, row(terms, i, count), weights[i])
+    let here = row_at(order, number - 1);
+    let count = counts[here] as usize;
+    put_line(out, row(terms, here, count), weights[here])
 }
 
-// The whole listing, from a place in the bytes on, line by line. It is for the crate `checker`, whose configurations are known
-// to be well formed.
+// The whole listing, from a place in the bytes on, line by line. It is for the crate `report`, whose tables fit.
 pub fn put_listing(
     out: &mut [u8],
     at: usize,
-    head: Head,
+    variables: u32,
+    lines: usize,
+    order: &[u64],
     terms: &[u32],
     weights: &[i64],
     counts: &[u32],
 ) -> usize
-    requires { ⌜ T (wellFormed (memoryAt head terms weights counts)) × (at + 1089792 ≤ length (now out)) ⌝ }
-    ensures end { λ r. ⌜ r ≡ at + length (listed (memoryBefore head terms weights counts)) ⌝ }
-    ensures text { λ _. ⌜ now (out .exit) ≡ overwritten (now (out .entry)) at (listed (memoryBefore head terms weights counts)) ⌝ }
+    requires { ⌜ Fits 128 (tableAt lines order terms weights counts) × (at + 1089792 ≤ length (now out)) ⌝ }
+    ensures end { λ r. let L = linesOf (tableBefore lines order terms weights counts) in ⌜ r ≡ at + length (listingOf variables L) ⌝ }
+    ensures text { λ _. let L = linesOf (tableBefore lines order terms weights counts) in
+        ⌜ now (out .exit) ≡ overwritten (now (out .entry)) at (listingOf variables L) ⌝ }
     ensures room { λ r. ⌜ r ≤ at + 1089792 ⌝ }
 {
-    let lines = head.lines as usize;
     let mut end = at;
     let mut number: usize = 0;
     while number <= lines {
-        let size = put_text(&mut out[end..], head, terms, weights, counts, number);
+        let size = put_text(
+            &mut out[end..],
+            variables,
+            lines,
+            order,
+            terms,
+            weights,
+            counts,
+            number,
+        );
         end += size;
         number += 1;
     }
     end
-}
-
-// Writes the line of a number at the front of a lent area, from lent areas of any lengths and contents.
-pub fn write_line(
-    area: &mut [u8],
-    head: Head,
-    terms: &[u32],
-    weights: &[i64],
-    counts: &[u32],
-    number: usize,
-) -> Answer
-    ensures { λ r. ⌜ leftOf (now (area .exit)) r ≡ writeLine number (memoryBefore head terms weights counts) (now (area .entry)) ⌝ }
-{
-    if terms.len() != 8192 {
-        return Answer::Refused(0, Reason::WrongLength);
-    }
-    if weights.len() != 128 {
-        return Answer::Refused(0, Reason::WrongLength);
-    }
-    if counts.len() != 128 {
-        return Answer::Refused(0, Reason::WrongLength);
-    }
-    if !well_formed(head, terms, weights, counts) {
-        return Answer::Refused(0, Reason::IllFormed);
-    }
-    if (head.lines as usize) < number {
-        return Answer::Refused(0, Reason::NoSuchLine);
-    }
-    let mut text = [0u8; 8448];
-    let size = put_text(&mut text, head, terms, weights, counts, number);
-    if area.len() < size {
-        return Answer::Refused(0, Reason::TextTooLong);
-    }
-    put_bytes(area, 0, &text[..size]);
-    Answer::Written(size)
 }

@@ -1,10 +1,10 @@
 // Writers of text: each puts its text into bytes from a place on, and answers the place behind it. They are for this
 // crate and for the lines of `report` and `boundary`, which have made room.
 ghost use mathlib.Core.Path.{_≡_};
-ghost use mathlib.Core.List.{map, [], _∷_};
+ghost use mathlib.Core.List.{[], _∷_};
 ghost use Prim.Native.Nat.{_+_, _≤_, _<_};
 ghost use lib.ListN.{length};
-ghost use Rattle.listing.specs.Listing.{decimal, weightText, joined, namesFrom, termText};
+ghost use Rattle.listing.specs.Listing.{decimal, weightText, nameText, namesText, termText, termsText};
 ghost use Rattle.listing.specs.Writing.{overwritten, starred};
 
 // A text that is there.
@@ -38,10 +38,10 @@ fn put_small(out: &mut [u8], at: usize, n: u8) -> usize
     ensures text { λ _. ⌜ now (out .exit) ≡ overwritten (now (out .entry)) at (decimal n) ⌝ }
 {
     if n < 10 {
-        return put_byte(out, at, 48 + n);
+        return put_byte(out, at, b'0' + n);
     }
-    let last = put_byte(out, at, 48 + n / 10);
-    put_byte(out, last, 48 + n % 10)
+    let last = put_byte(out, at, b'0' + n / 10);
+    put_byte(out, last, b'0' + n % 10)
 }
 
 // A number in decimal: the digits in front of the last one first.
@@ -54,7 +54,7 @@ pub fn put_decimal(out: &mut [u8], at: usize, n: u64) -> usize
         return put_small(out, at, n as u8);
     }
     let last = put_decimal(out, at, n / 10);
-    put_byte(out, last, 48 + (n % 10) as u8)
+    put_byte(out, last, b'0' + (n % 10) as u8)
 }
 
 // A weight in decimal, with a minus sign in front if it is negative.
@@ -73,9 +73,9 @@ pub fn put_weight(out: &mut [u8], at: usize, weight: i64) -> usize
 
 // The name of a variable, behind an asterisk unless it is the first of its term.
 fn put_name(out: &mut [u8], at: usize, first: bool, i: u8) -> usize
-    requires { ⌜ (i < 100) × (at + length (starred first (120 ∷ decimal i)) ≤ length (now out)) ⌝ }
-    ensures end { λ r. ⌜ r ≡ at + length (starred first (120 ∷ decimal i)) ⌝ }
-    ensures text { λ _. ⌜ now (out .exit) ≡ overwritten (now (out .entry)) at (starred first (120 ∷ decimal i)) ⌝ }
+    requires { ⌜ (i < 100) × (at + length (starred first (nameText i)) ≤ length (now out)) ⌝ }
+    ensures end { λ r. ⌜ r ≡ at + length (starred first (nameText i)) ⌝ }
+    ensures text { λ _. ⌜ now (out .exit) ≡ overwritten (now (out .entry)) at (starred first (nameText i)) ⌝ }
 {
     let mut name = at;
     if !first {
@@ -88,9 +88,9 @@ fn put_name(out: &mut [u8], at: usize, first: bool, i: u8) -> usize
 // The variables of a term that is not 1, ascending, with an asterisk between each two: each turn goes to the next one in
 // the mask.
 fn put_names(out: &mut [u8], at: usize, mask: u32) -> usize
-    requires { ⌜ at + length (joined (42 ∷ []) (namesFrom 32 1 mask)) ≤ length (now out) ⌝ }
-    ensures end { λ r. ⌜ r ≡ at + length (joined (42 ∷ []) (namesFrom 32 1 mask)) ⌝ }
-    ensures text { λ _. ⌜ now (out .exit) ≡ overwritten (now (out .entry)) at (joined (42 ∷ []) (namesFrom 32 1 mask)) ⌝ }
+    requires { ⌜ at + length (namesText mask) ≤ length (now out) ⌝ }
+    ensures end { λ r. ⌜ r ≡ at + length (namesText mask) ⌝ }
+    ensures text { λ _. ⌜ now (out .exit) ≡ overwritten (now (out .entry)) at (namesText mask) ⌝ }
 {
     let mut end = at;
     let mut first = true;
@@ -120,9 +120,9 @@ fn put_term(out: &mut [u8], at: usize, mask: u32) -> usize
 
 // The terms of a polynomial, with a plus sign between each two.
 pub fn put_terms(out: &mut [u8], at: usize, f: &[u32]) -> usize
-    requires { ⌜ at + length (joined (32 ∷ 43 ∷ 32 ∷ []) (map termText (now f))) ≤ length (now out) ⌝ }
-    ensures end { λ r. ⌜ r ≡ at + length (joined (32 ∷ 43 ∷ 32 ∷ []) (map termText (now (f .entry)))) ⌝ }
-    ensures text { λ _. ⌜ now (out .exit) ≡ overwritten (now (out .entry)) at (joined (32 ∷ 43 ∷ 32 ∷ []) (map termText (now (f .entry)))) ⌝ }
+    requires { ⌜ at + length (termsText (now f)) ≤ length (now out) ⌝ }
+    ensures end { λ r. ⌜ r ≡ at + length (termsText (now (f .entry))) ⌝ }
+    ensures text { λ _. ⌜ now (out .exit) ≡ overwritten (now (out .entry)) at (termsText (now (f .entry))) ⌝ }
 {
     let mut end = at;
     let mut i: usize = 0;

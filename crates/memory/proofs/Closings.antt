@@ -9,15 +9,14 @@ use lib.Dec.{T, leb}
 use lib.IntN.{ℤ}
 use lib.ListN.{length, getD, set, take, drop, replicate, length-append, length-drop, length-replicate, length-take, take-append-drop, replicate-append-replicate, drop-of-length-le}
 use lib.Seq.{append-snoc, drop-length, slice, take-at, drop-at, take-take, take-suc, drop-drop, set-at, drop-append-le, length-take-le, length-slice}
-use Rattle.run.specs.Boolean.{right}
+use Rattle.run.specs.BooleanLaws.{right}
 use Rattle.configuration.specs.Configuration.{Line, line}
-use Rattle.configuration.specs.Memory.{zeros}
-use Rattle.configuration.specs.MemoryLaws.{Short, zeros-replicate, every-take}
+use Rattle.configuration.specs.LineLaws.{Short, every-take}
 use Rattle.table.specs.Rows.{Table, rowOf, linesAt, linesOf, Each, Entered, Fits}
 use Rattle.memory.specs.declared.Entry.{Entry}
-use Rattle.memory.specs.Memory.{Memory, termsOf, entriesOf, unused, imageOf}
-use Rattle.memory.specs.MemoryLaws.{length-terms, length-entries, row-short, first-cleared, rest-cleared}
-use Rattle.memory.specs.Layout.{rowCleared, cleared}
+use Rattle.memory.specs.Memory.{Memory, termAreaOf, entriesOf, unused, imageOf}
+use Rattle.memory.specs.MemoryLaws.{zeros-replicate, length-terms, length-entries, row-short, first-cleared, rest-cleared}
+use Rattle.memory.specs.Layout.{zeros, rowCleared, cleared}
 
 -- ---- rows that are cleared
 pub every-row : (i : ℕ) (ts : List ℕ) (t : List Entry) → T (cleared ts t) → i < length t → T (rowCleared (drop (64 * i) ts) (getD t i unused))
@@ -89,23 +88,23 @@ short-at : (t : Table) (is : List ℕ) → Each (Entered t) is → Short (linesA
 short-at t [] h = tt
 short-at t (e ∷ is) h = (omega (arith, h .0 .1, length-take (getD (t .counts) (rowOf e) 0) (drop (64 * rowOf e) (t .terms))), short-at t is (h .1))
 
-pub fits-short : {c : ℕ} {t : Table} → Fits c t → Short (linesOf t)
-fits-short {c} {t} q = short-at t (take (t .lines) (t .order)) (q .entered)
+pub table-short : {c : ℕ} {t : Table} → Fits c t → Short (linesOf t)
+table-short {c} {t} q = short-at t (take (t .lines) (t .order)) (q .entered)
 
-pub no-terms : (N : List Line) (l : List ℕ) → l ≡ termsOf (take 0 N) ++ drop (64 * 0) l
-unfolding termsOf
+pub no-terms : (N : List Line) (l : List ℕ) → l ≡ termAreaOf (take 0 N) ++ drop (64 * 0) l
+unfolding termAreaOf
 no-terms N l = refl
 
 pub no-lines : (N : List Line) → replicate 128 unused ≡ entriesOf (take 0 N) ++ replicate (128 - 0) unused
 unfolding entriesOf
 no-lines N = refl
 
-terms-more : (L : List Line) (f : List ℕ) (w : ℤ) → termsOf (L ++ line f w ∷ []) ≡ termsOf L ++ (f ++ replicate (64 - length f) 0)
-unfolding termsOf
+terms-more : (L : List Line) (f : List ℕ) (w : ℤ) → termAreaOf (L ++ line f w ∷ []) ≡ termAreaOf L ++ (f ++ replicate (64 - length f) 0)
+unfolding termAreaOf
 terms-more [] f w = append-nil (f ++ replicate (64 - length f) 0)
 terms-more (line g u ∷ L) f w =
     ap (λ (x : List ℕ). g ++ replicate (64 - length g) 0 ++ x) (terms-more L f w)
-    ∙ sym (append-assoc (g ++ replicate (64 - length g) 0) (termsOf L) (f ++ replicate (64 - length f) 0))
+    ∙ sym (append-assoc (g ++ replicate (64 - length g) 0) (termAreaOf L) (f ++ replicate (64 - length f) 0))
 
 entries-more : (L : List Line) (f : List ℕ) (w : ℤ) → entriesOf (L ++ line f w ∷ []) ≡ entriesOf L ++ record { weight = w; count = length f } ∷ []
 unfolding entriesOf
@@ -117,29 +116,29 @@ module _ (N : List Line) (sh : Short N) (i : ℕ) (l : List ℕ) (b : i < length
   M = take i N
 
   abbrev m : List ℕ
-  m = termsOf M ++ drop (64 * i) l
+  m = termAreaOf M ++ drop (64 * i) l
 
-  terms-long : length (termsOf M) ≡ 64 * i
+  terms-long : length (termAreaOf M) ≡ 64 * i
   terms-long = length-terms M (every-take (λ f. length f ≤ 64) i N sh) ∙ ap (λ (k : ℕ). 64 * k) (length-take-le i N (omega arith))
 
   -- the rows that are not written yet are as they were
   pub rows-left : drop (64 * i) m ≡ drop (64 * i) l
-  rows-left = drop-at (termsOf M) (drop (64 * i) l) (64 * i) terms-long
+  rows-left = drop-at (termAreaOf M) (drop (64 * i) l) (64 * i) terms-long
 
   module _ (f : List ℕ) (w : ℤ) (d : Line) (x : getD N i d ≡ line f w) where
     more : take (i + 1) N ≡ M ++ line f w ∷ []
     more = ap (λ (k : ℕ). take k N) (add-one i) ∙ take-suc N i d b ∙ ap (λ (y : Line). M ++ y ∷ []) x
 
-    pub next-terms : take (64 * i) m ++ (f ++ (replicate (64 - length f) 0 ++ drop (64 * i + 64) m)) ≡ termsOf (take (i + 1) N) ++ drop (64 * (i + 1)) l
+    pub next-terms : take (64 * i) m ++ (f ++ (replicate (64 - length f) 0 ++ drop (64 * i + 64) m)) ≡ termAreaOf (take (i + 1) N) ++ drop (64 * (i + 1)) l
     next-terms =
         let s : 64 * i + 64 ≡ 64 * (i + 1) = omega arith in
         let z : List ℕ = replicate (64 - length f) 0 in
         let y : List ℕ = drop (64 * (i + 1)) l in
         let e : drop (64 * i + 64) m ≡ y =
         sym (drop-drop 64 (64 * i) m) ∙ ap (drop 64) rows-left ∙ drop-drop 64 (64 * i) l ∙ ap (λ (k : ℕ). drop k l) s in
-        ap₂ (λ (p q : List ℕ). p ++ (f ++ (z ++ q))) (take-at (termsOf M) (drop (64 * i) l) (64 * i) terms-long) e
-        ∙ ap (λ (p : List ℕ). termsOf M ++ p) (sym (append-assoc f z y)) ∙ sym (append-assoc (termsOf M) (f ++ z) y)
-        ∙ ap (λ (p : List ℕ). p ++ y) (sym (ap termsOf more ∙ terms-more M f w))
+        ap₂ (λ (p q : List ℕ). p ++ (f ++ (z ++ q))) (take-at (termAreaOf M) (drop (64 * i) l) (64 * i) terms-long) e
+        ∙ ap (λ (p : List ℕ). termAreaOf M ++ p) (sym (append-assoc f z y)) ∙ sym (append-assoc (termAreaOf M) (f ++ z) y)
+        ∙ ap (λ (p : List ℕ). p ++ y) (sym (ap termAreaOf more ∙ terms-more M f w))
 
     pub next-entries : i < 128
         → set (entriesOf M ++ replicate (128 - i) unused) i (record { weight = w; count = length f }) ≡ entriesOf (take (i + 1) N) ++ replicate (128 - (i + 1)) unused
@@ -196,26 +195,26 @@ module _ (k : ℕ) (l : List ℕ) where
 
 -- ---- the whole
 -- the rows behind those of all lines, which are written
-module _ (N : List Line) (sh : Short N) (k : ℕ) (c : length N ≡ k) (l m : List ℕ) (e : m ≡ termsOf N ++ drop (64 * k) l) where
-  all-long : length (termsOf N) ≡ 64 * k
+module _ (N : List Line) (sh : Short N) (k : ℕ) (c : length N ≡ k) (l m : List ℕ) (e : m ≡ termAreaOf N ++ drop (64 * k) l) where
+  all-long : length (termAreaOf N) ≡ 64 * k
   all-long = length-terms N sh ∙ ap (λ (j : ℕ). 64 * j) c
 
   pub put-length : 64 * k ≤ length l → length m ≡ length l
-  put-length h = ap length e ∙ length-append (termsOf N) (drop (64 * k) l) ∙ omega (arith, all-long, length-drop (64 * k) l)
+  put-length h = ap length e ∙ length-append (termAreaOf N) (drop (64 * k) l) ∙ omega (arith, all-long, length-drop (64 * k) l)
 
   pub rows-behind : (i : ℕ) → k ≤ i → drop (64 * i) m ≡ drop (64 * i) l
   rows-behind i h =
       let j : ℕ = 64 * i - 64 * k in
       let s : 64 * k + j ≡ 64 * i = omega arith in
-      ap (λ (x : ℕ). drop x m) (sym s) ∙ sym (drop-drop j (64 * k) m) ∙ ap (drop j) (ap (drop (64 * k)) e ∙ drop-at (termsOf N) (drop (64 * k) l) (64 * k) all-long)
+      ap (λ (x : ℕ). drop x m) (sym s) ∙ sym (drop-drop j (64 * k) m) ∙ ap (drop j) (ap (drop (64 * k)) e ∙ drop-at (termAreaOf N) (drop (64 * k) l) (64 * k) all-long)
       ∙ drop-drop j (64 * k) l ∙ ap (λ (x : ℕ). drop x l) s
 
-pub written-back : (n lines : ℕ) (N : List Line) (ts l x : List ℕ) (t : List Entry) → Short N → length N ≡ lines → ts ≡ termsOf N ++ x
+pub written-back : (n lines : ℕ) (N : List Line) (ts l x : List ℕ) (t : List Entry) → Short N → length N ≡ lines → ts ≡ termAreaOf N ++ x
     → l ≡ take (64 * lines) ts ++ replicate (64 * (128 - lines)) 0 → t ≡ entriesOf N ++ replicate (128 - lines) unused
     → _≡_ {A = Memory} (record { variables = n; lines = lines; terms = l; table = t }) (imageOf n N)
 written-back n lines N ts l x t sh c a e d =
-    let k : length (termsOf N) ≡ 64 * lines = length-terms N sh ∙ ap (λ (j : ℕ). 64 * j) c in
-    let p : l ≡ termsOf N ++ replicate (64 * (128 - length N)) 0 =
-    e ∙ ap₂ (λ (y : List ℕ) (j : ℕ). y ++ replicate (64 * (128 - j)) 0) (ap (take (64 * lines)) a ∙ take-at (termsOf N) x (64 * lines) k) (sym c) in
+    let k : length (termAreaOf N) ≡ 64 * lines = length-terms N sh ∙ ap (λ (j : ℕ). 64 * j) c in
+    let p : l ≡ termAreaOf N ++ replicate (64 * (128 - length N)) 0 =
+    e ∙ ap₂ (λ (y : List ℕ) (j : ℕ). y ++ replicate (64 * (128 - j)) 0) (ap (take (64 * lines)) a ∙ take-at (termAreaOf N) x (64 * lines) k) (sym c) in
     let q : t ≡ entriesOf N ++ replicate (128 - length N) unused = d ∙ ap (λ (j : ℕ). entriesOf N ++ replicate (128 - j) unused) (sym c) in
     λ i. record { variables = n; lines = sym c i; terms = p i; table = q i }

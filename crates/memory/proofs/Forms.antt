@@ -1,25 +1,26 @@
--- The steps of the test 'well formed', over plain lists: a line, the rows of a term area, the entries behind the lines, the lines one by one, and the parts of the whole test.
-use mathlib.Core.Path.{_≡_, refl, sym, ap, _∙_}
-use mathlib.Core.Bool.{Bool, true, false, _&&_, true≢false}
+-- The steps of the test 'well formed', over plain lists: a line, zeros, the rows of a term area, the entries behind the lines, the lines one by one, and the parts of the whole test.
+use mathlib.Core.Path.{_≡_, refl, sym, ap, ap₂, _∙_}
+use mathlib.Core.Bool.{Bool, true, false, not, _&&_, true≢false}
 use mathlib.Core.List.{List, [], _∷_}
-use Prim.Native.Nat.{ℕ, zero, suc, _+_, _-_, _*_, _≤_, _<_}
+use Prim.Native.Nat.{ℕ, zero, suc, _+_, _-_, _*_, _^_, _≤_, _<_}
 use native.Mathlib.Nat.{le-of-suc-le-suc, not-suc-le-zero}
 use native.Mathlib.Numerals.{add-one}
 use native.Mathlib.Omega.{arith}
-use lib.Dec.{T}
+use lib.Bits.{bitOr}
+use lib.Dec.{T, eqb, ltb}
 use lib.IntN.{ℤ, pos}
 use lib.ListN.{length, getD, take, drop, length-drop, drop-of-length-le}
 use lib.Seq.{slice, take-add, drop-at, drop-cons, drop-drop, length-take-le}
-use borrow.Author.Tests.{lt-leb, le-leb}
-use Rattle.run.specs.Boolean.{is-false, left, right, both, bool-ext}
+use borrow.Author.Tests.{ne-eqb, le-ltb, lt-leb, le-leb}
+use Rattle.run.specs.BooleanLaws.{is-false, left, right, both, bool-ext}
 use Rattle.polynomial.specs.Polynomial.{orderOf}
-use Rattle.configuration.specs.Weight.{inRange}
-use Rattle.configuration.specs.Configuration.{Line, line, byOrder, lineFits, linesFit, weightsFit}
-use Rattle.configuration.specs.Memory.{zeros}
+use Rattle.configuration.specs.Weight.{inRange, isZero}
+use Rattle.configuration.specs.Configuration.{Line, line, some, byOrder, isPolynomial, lineFits, linesFit, weightsFit}
+use Rattle.configuration.proofs.Weights.{joined-below}
 use Rattle.memory.specs.declared.Entry.{Entry}
 use Rattle.memory.specs.Memory.{Memory, readLines, unused, standingOf, wellFormed}
 use Rattle.memory.specs.MemoryLaws.{length-read, row-short, first-cleared, rest-cleared, Formed, well-formed, formed-well}
-use Rattle.memory.specs.Layout.{rowCleared, cleared, isUnused, allUnused}
+use Rattle.memory.specs.Layout.{zeros, rowCleared, cleared, isUnused, allUnused}
 
 -- ---- tests
 pub and-false : (a b : Bool) → b ≡ false → (a && b) ≡ false
@@ -43,6 +44,36 @@ none-of false b c d e = refl
 and-assoc : (a b c : Bool) → ((a && b) && c) ≡ (a && (b && c))
 and-assoc true b c = refl
 and-assoc false b c = refl
+
+-- ---- a line
+some-none : (f : List ℕ) → length f ≡ 0 → some f ≡ false
+some-none [] e = refl
+some-none (t ∷ f) e = let z : ⊥ = omega arith in absurd z
+
+some-many : (f : List ℕ) → (length f ≡ 0 → ⊥) → some f ≡ true
+some-many [] h = absurd (h refl)
+some-many (t ∷ f) h = refl
+
+module _ (n : ℕ) (f : List ℕ) (w : ℤ) where
+  pub without-terms : length f ≡ 0 → false ≡ lineFits n (line f w)
+  unfolding lineFits
+  without-terms e = rw (some-none f e)
+
+  pub without-weight : isZero w ≡ true → false ≡ lineFits n (line f w)
+  unfolding lineFits
+  without-weight e = sym (and-false (some f) _ (and-false (isPolynomial n f) (not (isZero w)) (ap not e)))
+
+  pub the-polynomial : (length f ≡ 0 → ⊥) → isZero w ≡ false → isPolynomial n f ≡ lineFits n (line f w)
+  unfolding lineFits
+  the-polynomial h e = rw (some-many f h) (sym (and-true (isPolynomial n f) (not (isZero w)) (ap not e)))
+
+-- ---- joined bits are zero just if both numbers are
+below-one : (a : ℕ) → ltb a (2 ^ 0) ≡ eqb a 0
+below-one zero = refl
+below-one (suc a) = le-ltb (suc a) (2 ^ 0) (omega arith) ∙ sym (ne-eqb (suc a) 0 (λ e. omega arith))
+
+pub joined-zero : (a b : ℕ) → eqb (bitOr a b) 0 ≡ (eqb a 0 && eqb b 0)
+joined-zero a b = sym (below-one (bitOr a b)) ∙ joined-below 0 a b ∙ ap₂ _&&_ (below-one a) (below-one b)
 
 -- ---- a row of a term area
 part : (a n : ℕ) (l : List ℕ) → a + n ≤ length l → drop a (take (a + n) l) ≡ take n (drop a l)
@@ -107,10 +138,10 @@ cleared-short i ts [] h l = absurd (not-suc-le-zero l)
 cleared-short zero ts (e ∷ t) h l = row-short ts e (first-cleared ts e t h)
 cleared-short (suc i) ts (e ∷ t) h l = cleared-short i (drop 64 ts) t (rest-cleared ts e t h) (le-of-suc-le-suc l)
 
-abbrev pub lineIn : List ℕ → List Entry → ℕ → Line
-lineIn ts t i = line (take (getD t i unused .count) (drop (64 * i) ts)) (getD t i unused .weight)
+abbrev pub lineRead : List ℕ → List Entry → ℕ → Line
+lineRead ts t i = line (take (getD t i unused .count) (drop (64 * i) ts)) (getD t i unused .weight)
 
-pub line-read : (k i : ℕ) (ts : List ℕ) (t : List Entry) (d : Line) → i < k → k ≤ length t → getD (readLines k ts t) i d ≡ lineIn ts t i
+pub line-read : (k i : ℕ) (ts : List ℕ) (t : List Entry) (d : Line) → i < k → k ≤ length t → getD (readLines k ts t) i d ≡ lineRead ts t i
 unfolding readLines
 line-read zero i ts t d h l = absurd (not-suc-le-zero h)
 line-read (suc k) i ts [] d h l = absurd (not-suc-le-zero l)
@@ -119,56 +150,56 @@ line-read (suc k) (suc i) ts (e ∷ t) d h l =
     let s : 64 + 64 * i ≡ 64 * suc i = omega arith in
     line-read k i (drop 64 ts) t d (le-of-suc-le-suc h) (le-of-suc-le-suc l) ∙ rw (drop-drop (64 * i) 64 ts, s)
 
-abbrev pub Fit : ℕ → List Line → Bool
-Fit n L = linesFit n L && weightsFit L
+abbrev pub bothFit : ℕ → List Line → Bool
+bothFit n L = linesFit n L && weightsFit L
 
 module _ (n : ℕ) (f : List ℕ) (w : ℤ) where
-  misfit : (L : List Line) → (lineFits n (line f w) && inRange w) ≡ false → Fit n (line f w ∷ L) ≡ false
+  misfit : (L : List Line) → (lineFits n (line f w) && inRange w) ≡ false → bothFit n (line f w ∷ L) ≡ false
   unfolding linesFit weightsFit
   misfit [] e = rw (and-true (lineFits n (line f w)) true refl) at (none-of (lineFits n (line f w)) true (inRange w) true e)
   misfit (line g u ∷ L) e = none-of (lineFits n (line f w)) _ (inRange w) _ e
 
-  fit-last : (lineFits n (line f w) && inRange w) ≡ true → Fit n (line f w ∷ []) ≡ true
+  fit-last : (lineFits n (line f w) && inRange w) ≡ true → bothFit n (line f w ∷ []) ≡ true
   unfolding linesFit weightsFit
   fit-last e = let p = both-true (lineFits n (line f w)) (inRange w) e in rw (p .0, p .1)
 
   fit-pair : (g : List ℕ) (u : ℤ) (L : List Line) → (lineFits n (line f w) && inRange w) ≡ true
-      → Fit n (line f w ∷ line g u ∷ L) ≡ (byOrder (orderOf f g) true false false && Fit n (line g u ∷ L))
+      → bothFit n (line f w ∷ line g u ∷ L) ≡ (byOrder (orderOf f g) true false false && bothFit n (line g u ∷ L))
   unfolding linesFit weightsFit
   fit-pair g u L e =
       let p = both-true (lineFits n (line f w)) (inRange w) e in
       rw (p .0, p .1) (and-assoc (byOrder (orderOf f g) true false false) (linesFit n (line g u ∷ L)) (weightsFit (line g u ∷ L)))
 
-module _ (n k i : ℕ) (ts : List ℕ) (t : List Entry) (b : k ≤ length t) (inv : Fit n (drop i (readLines k ts t)) ≡ Fit n (readLines k ts t)) where
+module _ (n k i : ℕ) (ts : List ℕ) (t : List Entry) (b : k ≤ length t) (inv : bothFit n (drop i (readLines k ts t)) ≡ bothFit n (readLines k ts t)) where
   abbrev L : List Line
   L = readLines k ts t
 
-  here : (j : ℕ) → j < k → drop j L ≡ lineIn ts t j ∷ drop (j + 1) L
+  here : (j : ℕ) → j < k → drop j L ≡ lineRead ts t j ∷ drop (j + 1) L
   here j h =
       let d : Line = line [] (pos 0) in
       let l : j < length L = omega (arith, length-read k ts t b) in
       drop-cons L j d l ∙ rw (line-read k j ts t d h b, add-one j)
 
   abbrev Here : Bool
-  Here = lineFits n (lineIn ts t i) && inRange (getD t i unused .weight)
+  Here = lineFits n (lineRead ts t i) && inRange (getD t i unused .weight)
 
-  pub line-misfit : i < k → Here ≡ false → false ≡ Fit n L
+  pub line-misfit : i < k → Here ≡ false → false ≡ bothFit n L
   line-misfit h e = sym (misfit n _ _ (drop (i + 1) L) e) ∙ (rw (here i h) at inv)
 
   module _ (h : i + 1 < k) (e : Here ≡ true) where
-    abbrev InOrder : Bool
-    InOrder = byOrder (orderOf (take (getD t i unused .count) (drop (64 * i) ts)) (take (getD t (i + 1) unused .count) (drop (64 * (i + 1)) ts))) true false false
+    abbrev firstBefore : Bool
+    firstBefore = byOrder (orderOf (take (getD t i unused .count) (drop (64 * i) ts)) (take (getD t (i + 1) unused .count) (drop (64 * (i + 1)) ts))) true false false
 
-    pair : Fit n (drop i L) ≡ (InOrder && Fit n (drop (i + 1) L))
+    pair : bothFit n (drop i L) ≡ (firstBefore && bothFit n (drop (i + 1) L))
     pair =
         let l : i < k = omega arith in
-        ap (Fit n) (here i l ∙ ap (λ (M : List Line). lineIn ts t i ∷ M) (here (i + 1) h)) ∙ fit-pair n _ _ _ _ (drop (i + 1 + 1) L) e
-        ∙ ap (λ (M : List Line). InOrder && Fit n M) (sym (here (i + 1) h))
+        ap (bothFit n) (here i l ∙ ap (λ (M : List Line). lineRead ts t i ∷ M) (here (i + 1) h)) ∙ fit-pair n _ _ _ _ (drop (i + 1 + 1) L) e
+        ∙ ap (λ (M : List Line). firstBefore && bothFit n M) (sym (here (i + 1) h))
 
-    pub out-of-order : InOrder ≡ false → false ≡ Fit n L
+    pub out-of-order : firstBefore ≡ false → false ≡ bothFit n L
     out-of-order o = sym (rw o at pair) ∙ inv
 
-    pub ordered-pair : InOrder ≡ true → Fit n (drop (i + 1) L) ≡ Fit n L
+    pub ordered-pair : firstBefore ≡ true → bothFit n (drop (i + 1) L) ≡ bothFit n L
     ordered-pair o = sym (rw o at pair) ∙ inv
 
   none-left : (j : ℕ) → k ≤ j → drop j L ≡ []
@@ -176,15 +207,15 @@ module _ (n k i : ℕ) (ts : List ℕ) (t : List Entry) (b : k ≤ length t) (in
       let l : length L ≤ j = omega (arith, length-read k ts t b) in
       drop-of-length-le L l
 
-  pub last-line : i < k → k ≤ i + 1 → Here ≡ true → Fit n (drop (i + 1) L) ≡ Fit n L
+  pub last-line : i < k → k ≤ i + 1 → Here ≡ true → bothFit n (drop (i + 1) L) ≡ bothFit n L
   unfolding linesFit weightsFit
   last-line h l e =
-      let z : drop i L ≡ lineIn ts t i ∷ [] = here i h ∙ ap (λ (M : List Line). lineIn ts t i ∷ M) (none-left (i + 1) l) in
-      ap (Fit n) (none-left (i + 1) l) ∙ sym (fit-last n _ _ e) ∙ sym (ap (Fit n) z) ∙ inv
+      let z : drop i L ≡ lineRead ts t i ∷ [] = here i h ∙ ap (λ (M : List Line). lineRead ts t i ∷ M) (none-left (i + 1) l) in
+      ap (bothFit n) (none-left (i + 1) l) ∙ sym (fit-last n _ _ e) ∙ sym (ap (bothFit n) z) ∙ inv
 
-  pub lines-end : k ≤ i → true ≡ Fit n L
+  pub lines-end : k ≤ i → true ≡ bothFit n L
   unfolding linesFit weightsFit
-  lines-end h = sym (ap (Fit n) (none-left i h)) ∙ inv
+  lines-end h = sym (ap (bothFit n) (none-left i h)) ∙ inv
 
 -- ---- the whole test
 pub not-well : (m : Memory) → (Formed m → ⊥) → false ≡ wellFormed m

@@ -31,13 +31,13 @@ is bare v = ⊥
 is (holds u) v = u ≡ v
 
 -- local i holds v; and the same by cases
-abbrev pub Holds : List Hold → ℕ → Val → Type 0
-Holds hs i v = getD hs i bare ≡ holds v
+abbrev pub InLocal : List Hold → ℕ → Val → Type 0
+InLocal hs i v = getD hs i bare ≡ holds v
 
 abbrev There : List Hold → ℕ → Val → Type 0
 There hs i v = is (getD hs i bare) v
 
-there : (hs : List Hold) (i : ℕ) (v : Val) → Holds hs i v → There hs i v
+there : (hs : List Hold) (i : ℕ) (v : Val) → InLocal hs i v → There hs i v
 there hs i v e = subst (λ (h : Hold). is h v) (sym e) refl
 
 -- v is put into local i
@@ -82,7 +82,7 @@ hold-same (h ∷ hs) zero v p = ap (λ (k : Hold). k ∷ hs) (sym (is-so h v p))
 hold-same (h ∷ hs) (suc i) v p = ap (λ (ks : List Hold). h ∷ ks) (hold-same hs i v p)
 
 -- and is there then
-pub held-now : (hs : List Hold) (i : ℕ) (v : Val) → Holds (hold hs i v) i v
+pub held-now : (hs : List Hold) (i : ℕ) (v : Val) → InLocal (hold hs i v) i v
 held-now [] zero v = refl
 held-now [] (suc i) v = held-now [] i v
 held-now (h ∷ hs) zero v = refl
@@ -314,30 +314,30 @@ module _ {M : Type 1} {𝓤 : URA M} {H : Heap 𝓤} {A : Atoms 𝓤} {K : Type 
     same = ap (locals 𝓤 H E) (hold-same hs i v p);
   }
 
-  pub cell : K → (i : ℕ) {v : Val} → Holds hs i v → Part K W (locals 𝓤 H E hs) fullShare (spotOf 𝓤 H E i .0) (spotOf 𝓤 H E i .1) zero v
+  pub cell : K → (i : ℕ) {v : Val} → InLocal hs i v → Part K W (locals 𝓤 H E hs) fullShare (spotOf 𝓤 H E i .0) (spotOf 𝓤 H E i .1) zero v
       (λ u. locals 𝓤 H E (hold hs i u))
   cell t i {v} e = there-cell t i v (there hs i v e)
 
   -- where its type is known
-  cell-as : K → (i : ℕ) (τ : Ty) {v : Val} → spotOf 𝓤 H E i .0 ≡ τ → Holds hs i v
+  cell-as : K → (i : ℕ) (τ : Ty) {v : Val} → spotOf 𝓤 H E i .0 ≡ τ → InLocal hs i v
       → Part K W (locals 𝓤 H E hs) fullShare τ (spotOf 𝓤 H E i .1) zero v (λ u. locals 𝓤 H E (hold hs i u))
   cell-as t i τ {v} e p = subst (λ (σ : Ty). Part K W (locals 𝓤 H E hs) fullShare σ (spotOf 𝓤 H E i .1) zero v (λ u. locals 𝓤 H E (hold hs i u))) e (cell t i p)
 
   module _ {Γ : List (Item 𝓤)} where
     -- a local as an operand
-    pub var : K → {i : ℕ} {v : Val} → Holds hs i v → Opd K W (locals 𝓤 H E hs ∷ Γ) E (copy (place i [])) v
+    pub var : K → {i : ℕ} {v : Val} → InLocal hs i v → Opd K W (locals 𝓤 H E hs ∷ Γ) E (copy (place i [])) v
     var t {i} e = load t (from t (stop t)) (look-in t 0 (cell t i e))
 
     -- a field of a local that holds a struct
     pub part-of : K → {i k : ℕ} {vs : Vals} {ν : Sym} {τs : Tys} {τ : Ty} {d : ℕ} → spotOf 𝓤 H E i .0 ≡ tyStruct ν τs → fieldAt zero τs k ≡ some (τ, d)
-        → Holds hs i (vstruct vs)
+        → InLocal hs i (vstruct vs)
         → Opd K W (locals 𝓤 H E hs ∷ Γ) E (copy (place i (field k ∷ []))) (getV vs k)
     part-of t {i} {k} {ν = ν} {τs = τs} e f p = load t (from t (fld t (ap (λ (σ : Ty). fieldOf σ k) e ∙ f) (stop t)))
         (look-in t 0 (sub t k f (cell-as t i (tyStruct ν τs) e p)))
 
     -- what the pointer in such a field points to
     pub behind : K → {i k : ℕ} {vs : Vals} {ν : Sym} {τs : Tys} {τ σ : Ty} {d b o : ℕ} → spotOf 𝓤 H E i .0 ≡ tyStruct ν τs → fieldAt zero τs k ≡ some (τ, d)
-        → Holds hs i (vstruct vs) → getV vs k ≡ vptr b o
+        → InLocal hs i (vstruct vs) → getV vs k ≡ vptr b o
         → Rv K W (locals 𝓤 H E hs ∷ Γ) E (addrOf (place i (field k ∷ deref σ ∷ []))) (vptr b o)
     behind t {i} {k} {vs} {ν} {τs} {τ} {σ} {d} {b} {o} e f p x =
         addr t (from t (fld t (ap (λ (σ : Ty). fieldOf σ k) e ∙ f)
@@ -360,7 +360,7 @@ module _ {M : Type 1} {𝓤 : URA M} {H : Heap 𝓤} {A : Atoms 𝓤} {K : Type 
         (via 𝓤 (held 𝓤 H E (take n hs)) (forgotten 𝓤 H A W E n hs) (guardI 𝓤 (At E (take n hs)) (held 𝓤 H E (take n hs)) at)))
 
     -- local i is taken out
-    pub takes-out : K → (i : ℕ) (τ : Ty) {v : Val} {G : Goal 𝓤 H} → spotOf 𝓤 H E i .0 ≡ τ → Holds hs i v
+    pub takes-out : K → (i : ℕ) (τ : Ty) {v : Val} {G : Goal 𝓤 H} → spotOf 𝓤 H E i .0 ≡ τ → InLocal hs i v
         → Step K W (‵ (fat fullShare τ (spotOf 𝓤 H E i .1) zero v) ∷ ‵ (fdies τ (spotOf 𝓤 H E i .1)) ∷ locals 𝓤 H (drop (suc i) E) (drop (suc i) hs)
         ∷ locals 𝓤 H (take i E) (take i hs) ∷ Γ) G (locals 𝓤 H E hs ∷ Γ) G
     takes-out t i τ {v} {G} e p =
@@ -386,7 +386,7 @@ module _ {M : Type 1} {𝓤 : URA M} {H : Heap 𝓤} {A : Atoms 𝓤} {K : Type 
       sets-last t {i} {v = v} r wt = assigns-last t r (from t (stop t)) (fills 𝓤 H A W K (locals 𝓤 H E hs ∷ Γ) E hs 0 i v refl wt)
 
       -- the function returns what local 0 holds, and the locals are freed
-      pub leaves : K → (Kf : Val → SProp 𝓤) {v : Val} → post 𝓤 H q returnsᴼ ≡ atReturn 𝓤 H E Kf returnsᴼ → Holds hs 0 v
+      pub leaves : K → (Kf : Val → SProp 𝓤) {v : Val} → post 𝓤 H q returnsᴼ ≡ atReturn 𝓤 H E Kf returnsᴼ → InLocal hs 0 v
           → Step K W Γ (prop (Kf v)) (locals 𝓤 H E hs ∷ Γ) (runs C Λ E return q)
       leaves t Kf {v} e p = step (λ s. returns-within t Kf e (look-in t 0 (cell t 0 p)) $ record {
         prf = via 𝓤 (sep 𝓤 (mean 𝓤 H A (locals 𝓤 H E hs)) (⋆ 𝓤 H A Γ)) (pop 𝓤 H A (locals 𝓤 H E hs) Γ)

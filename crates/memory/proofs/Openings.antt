@@ -3,38 +3,35 @@ use mathlib.Core.Path.{_≡_, sym, ap, subst, _∙_}
 use mathlib.Core.List.{List, [], _∷_, _++_}
 use Prim.Native.Nat.{ℕ, zero, suc, _<_}
 use native.Mathlib.Omega.{arith}
-use lib.IntN.{ℤ, pos}
+use lib.IntN.{ℤ}
 use lib.ListN.{length, getD, take}
 use lib.Seq.{take-suc, length-take-le}
-use Rattle.configuration.specs.Configuration.{Line, line, Behind, Ordered}
+use Rattle.polynomial.specs.Polynomial.{orderOf}
+use Rattle.polynomial.specs.declared.Ordering.the-variants.{Earlier}
+use Rattle.configuration.specs.Configuration.{Line, line, InOrder}
+use Rattle.configuration.specs.ConfigurationLaws.{behind-every, every-behind}
+use Rattle.configuration.specs.LineLaws.{every-take}
 use Rattle.table.specs.Rows.{Table, linesOf, Fits, inTurn}
 use Rattle.table.specs.RowsLaws.{length-lines, fresh-fits}
+use Rattle.table.proofs.Searches.{none}
 
-pub none : Line
-none = line [] (pos 0)
-
-behind-take : (f : List ℕ) (k : ℕ) (L : List Line) → Behind f L → Behind f (take k L)
-behind-take f zero L b = tt
-behind-take f (suc k) [] b = tt
-behind-take f (suc k) (line g u ∷ L) b = (b .0, behind-take f k L (b .1))
-
-ordered-take : (k : ℕ) (L : List Line) → Ordered L → Ordered (take k L)
+ordered-take : (k : ℕ) (L : List Line) → InOrder L → InOrder (take k L)
 ordered-take zero L r = tt
 ordered-take (suc k) [] r = tt
-ordered-take (suc k) (line g u ∷ L) r = (r .0, (r .1 .0, (behind-take g k L (r .1 .1 .0), ordered-take k L (r .1 .1 .1))))
+ordered-take (suc k) (line g u ∷ L) r = (r .0, (r .1 .0, (every-behind g (take k L) (every-take (λ p. orderOf g p ≡ Earlier) k L (behind-every g L (r .1 .1 .0))), ordered-take k L (r .1 .1 .1))))
 
 -- a table in which no line is yet
-pub fresh : (is : List ℕ) (ts : List ℕ) (ws : List ℤ) (cs : List ℕ) → is ≡ inTurn 128 0 → length ts ≡ 8192 → length ws ≡ 128 → length cs ≡ 128
+pub fresh-table : (is : List ℕ) (ts : List ℕ) (ws : List ℤ) (cs : List ℕ) → is ≡ inTurn 128 0 → length ts ≡ 8192 → length ws ≡ 128 → length cs ≡ 128
     → Fits 128 (record { lines = 0; order = is; terms = ts; weights = ws; counts = cs })
-fresh is ts ws cs e lt lw lc =
+fresh-table is ts ws cs e lt lw lc =
     subst (λ (os : List ℕ). Fits 128 (record { lines = 0; order = os; terms = ts; weights = ws; counts = cs })) (sym e) (fresh-fits 128 ts ws cs (omega arith) (omega arith) lw lc)
 
 module _ (L : List Line) (t : Table) (e : linesOf t ≡ take (t .lines) L) (b : t .lines < length L) (f : List ℕ) (w : ℤ) (x : getD L (t .lines) none ≡ line f w) where
   grown : linesOf t ++ line f w ∷ [] ≡ take (suc (t .lines)) L
   grown = ap (λ (M : List Line). M ++ line f w ∷ []) e ∙ ap (λ (l : Line). take (t .lines) L ++ l ∷ []) (sym x) ∙ sym (take-suc L (t .lines) none b)
 
-  pub next-ordered : Ordered L → Ordered (linesOf t ++ line f w ∷ [])
-  next-ordered r = subst Ordered (sym grown) (ordered-take (suc (t .lines)) L r)
+  pub next-ordered : InOrder L → InOrder (linesOf t ++ line f w ∷ [])
+  next-ordered r = subst InOrder (sym grown) (ordered-take (suc (t .lines)) L r)
 
   module _ (u : Table) (q : Fits 128 u) (d : linesOf u ≡ linesOf t ++ line f w ∷ []) where
     pub next-lines : u .lines ≡ suc (t .lines)

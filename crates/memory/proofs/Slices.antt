@@ -19,7 +19,7 @@ use denote.Index.{place as spot, place-is}
 use denote.Ref.{RefT, ptr, now}
 use denote.Slice.{sliceTy, sliceVal}
 use borrow.Author.Tests.{eqb-true}
-use Rattle.memory.proofs.Locals.{Hold, Holds, hold, held-now, locals, tysAt, var, part-of, behind, sets}
+use Rattle.memory.proofs.Locals.{Hold, InLocal, hold, held-now, locals, tysAt, var, part-of, behind, sets}
 use Rattle.memory.proofs.Walking.{Upto, Nearer, Nearer-wf}
 
 -- a lent run as a machine value, and the pointer in it; and the locals once it is lent on through local a in local u
@@ -52,7 +52,7 @@ module _ {M : Type 1} {𝓤 : URA M} {H : Heap 𝓤} {A : Atoms 𝓤} {K : Type 
     {C : Calls 𝓤 H} {Λ : Loops 𝓤 H} {q : Post 𝓤 H} {X : Type 0} where
   -- `if x.len() != 128 { other } rest`, with x in local s, its length in l and the test in t
   pub tests-length : K → {s l t : ℕ} {other rest : Body} (x : RefT (List X)) {τ : Ty} → tysAt 𝓤 H E (s ∷ l ∷ t ∷ []) ≡ sliceTy τ ∷ tyInt w64 ∷ tyBool ∷ []
-      → Holds hs s (runVal x) → length (now x) < 2 ^ 64
+      → InLocal hs s (runVal x) → length (now x) < 2 ^ 64
       → (eqb (length (now x)) 128 ≡ false → Seq K W (locals 𝓤 H E (hold (hold hs l (vint w64 (length (now x)))) t (vbool (not (eqb (length (now x)) 128)))) ∷ Γ)
       (runs C Λ E other (anyQ (afterSeq 𝓤 H (Wp 𝓤 H C Λ E rest (post 𝓤 H q)) (post 𝓤 H q)))))
       → (length (now x) ≡ 128 → Seq K W (locals 𝓤 H E (hold (hold hs l (vint w64 (length (now x)))) t (vbool (not (eqb (length (now x)) 128)))) ∷ Γ)
@@ -69,7 +69,7 @@ module _ {M : Type 1} {𝓤 : URA M} {H : Heap 𝓤} {A : Atoms 𝓤} {K : Type 
   -- x, in local s, is lent on for a call: a pointer in local a, and that with the length in local u
   pub lends-on : K → {s a u : ℕ} {σ : Ty} {rest : Body} (x : RefT (List X)) {τ ρ : Ty} {ℓ : Lifetime} {m : Mutability}
       → tysAt 𝓤 H E (s ∷ a ∷ u ∷ []) ≡ sliceTy τ ∷ tyRef ℓ m ρ ∷ sliceTy (tyRef ℓ m ρ) ∷ []
-      → Holds hs s (runVal x) → Holds (hold hs a (ptrVal x)) s (runVal x) → length (now x) < 2 ^ 64
+      → InLocal hs s (runVal x) → InLocal (hold hs a (ptrVal x)) s (runVal x) → length (now x) < 2 ^ 64
       → Step K W (locals 𝓤 H E (lentOn hs a u x) ∷ Γ) (runs C Λ E rest q)
       (locals 𝓤 H E hs ∷ Γ) (runs C Λ E (seq (assign (place a []) (addrOf (place s (field 0 ∷ deref σ ∷ []))))
       (seq (assign (place u []) (aggregate (copy (place a []) ∷ copy (place s (field 1 ∷ [])) ∷ []))) rest)) q)
@@ -80,7 +80,7 @@ module _ {M : Type 1} {𝓤 : URA M} {H : Heap 𝓤} {A : Atoms 𝓤} {K : Type 
 
   -- the test of `while i < x.len()`, with x in local s, i in c, the length in l and the test in t
   pub tests-index : K → {s c l t n : ℕ} {body : Body} (x : RefT (List X)) (i : ℕ) {τ : Ty} → tysAt 𝓤 H E (s ∷ l ∷ t ∷ []) ≡ sliceTy τ ∷ tyInt w64 ∷ tyBool ∷ []
-      → Holds hs s (runVal x) → Holds (hold hs l (vint w64 (length (now x)))) c (vint w64 i) → length (now x) < 2 ^ 64
+      → InLocal hs s (runVal x) → InLocal (hold hs l (vint w64 (length (now x)))) c (vint w64 i) → length (now x) < 2 ^ 64
       → (i < length (now x) → Seq K W (locals 𝓤 H E (hold (hold hs l (vint w64 (length (now x)))) t (vbool (ltb i (length (now x))))) ∷ Γ) (runs C Λ E body q))
       → (length (now x) ≤ i → Seq K W (locals 𝓤 H E (hold (hold hs l (vint w64 (length (now x)))) t (vbool (ltb i (length (now x))))) ∷ Γ)
       (prop (post 𝓤 H q (exits n))))
@@ -95,7 +95,7 @@ module _ {M : Type 1} {𝓤 : URA M} {H : Heap 𝓤} {A : Atoms 𝓤} {K : Type 
 
   -- a pointer to element i of x, of 16 bytes, with x in local s, i in c, the bytes before it in l and the pointer in p
   pub points-at : K → {s c l p : ℕ} {rest : Body} (x : RefT (List X)) (i : ℕ) {τ : Ty} → tysAt 𝓤 H E (s ∷ l ∷ p ∷ []) ≡ sliceTy τ ∷ tyInt w64 ∷ tyPtr ∷ []
-      → Holds hs c (vint w64 i) → Holds (hold hs l (vint w64 (i * 16))) s (runVal x) → Fits w64 (i * 16)
+      → InLocal hs c (vint w64 i) → InLocal (hold hs l (vint w64 (i * 16))) s (runVal x) → Fits w64 (i * 16)
       → Step K W (locals 𝓤 H E (hold (hold hs l (vint w64 (i * 16))) p (vptr (ptr x .0) (spot 16 (ptr x .1) i))) ∷ Γ) (runs C Λ E rest q)
       (locals 𝓤 H E hs ∷ Γ) (runs C Λ E (seq (assign (place l []) (op2 (mul unsigned) (copy (place c [])) (int w64 16)))
       (seq (assign (place p []) (op2 offset (copy (place s (field 0 ∷ []))) (copy (place l [])))) rest)) q)
@@ -109,7 +109,7 @@ module _ {M : Type 1} {𝓤 : URA M} {H : Heap 𝓤} {A : Atoms 𝓤} {K : Type 
     {C : Calls 𝓤 H} {Λ : Loops 𝓤 H} {q : Post 𝓤 H} where
   -- a pointer to element i, of 16 bytes, of the array in local s, with i in c, the bytes before it in l, the array's address in a and the pointer in p
   pub points-in : K → {s c l a p : ℕ} {rest : Body} (i : ℕ) → tysAt 𝓤 H E (l ∷ a ∷ p ∷ []) ≡ tyInt w64 ∷ tyPtr ∷ tyPtr ∷ []
-      → Holds hs c (vint w64 i) → Holds (hold (hold hs l (vint w64 (i * 16))) a (vptr (spotOf 𝓤 H E s .1) 0)) l (vint w64 (i * 16)) → Fits w64 (i * 16)
+      → InLocal hs c (vint w64 i) → InLocal (hold (hold hs l (vint w64 (i * 16))) a (vptr (spotOf 𝓤 H E s .1) 0)) l (vint w64 (i * 16)) → Fits w64 (i * 16)
       → Step K W (locals 𝓤 H E (hold (hold (hold hs l (vint w64 (i * 16))) a (vptr (spotOf 𝓤 H E s .1) 0)) p (vptr (spotOf 𝓤 H E s .1) (spot 16 0 i))) ∷ Γ)
       (runs C Λ E rest q)
       (locals 𝓤 H E hs ∷ Γ) (runs C Λ E (seq (assign (place l []) (op2 (mul unsigned) (copy (place c [])) (int w64 16)))

@@ -6,9 +6,12 @@ use lib.Dec.{T, eqb, leb}
 use lib.ListN.{length, getD, drop}
 use lib.Seq.{slice}
 use Rattle.configuration.specs.Weight.{isZero}
-use Rattle.configuration.specs.Memory.{zeros}
 use Rattle.memory.specs.declared.Entry.{Entry}
 use Rattle.memory.specs.Memory.{unused}
+
+unfoldable pub zeros : List ℕ → Bool
+zeros [] = true
+zeros (x ∷ l) = eqb x 0 && zeros l
 
 -- an entry counts at most 64 terms, and the places of its row behind them are zero
 abbrev pub rowCleared : List ℕ → Entry → Bool

@@ -6,10 +6,10 @@ use mathlib.Core.List.{List, [], _∷_, _++_}
 use Prim.Native.Nat.{ℕ, zero, suc, _-_, _*_}
 use denote.Ref.{RefT, now}
 use denote.Triple.Both.{Both}
-use lib.Dec.{eqb, leb}
+use lib.Dec.{eqb}
 use lib.IntN.{ℤ, pos, negsuc}
 use lib.ListN.{length, take, drop, replicate}
-use Rattle.configuration.specs.Configuration.{Line, line, linesFit, weightsFit}
+use Rattle.configuration.specs.Configuration.{Line, line, isConfiguration}
 use Rattle.memory.specs.declared.Head.{Head}
 use Rattle.memory.specs.declared.Entry.{Entry}
 
@@ -32,9 +32,9 @@ abbrev pub standingOf : Memory → List Line
 standingOf m = readLines (m .lines) (m .terms) (m .table)
 
 -- ---- the memory of a configuration of n variables
-unfoldable pub termsOf : List Line → List ℕ
-termsOf [] = []
-termsOf (line f w ∷ L) = f ++ replicate (64 - length f) 0 ++ termsOf L
+unfoldable pub termAreaOf : List Line → List ℕ
+termAreaOf [] = []
+termAreaOf (line f w ∷ L) = f ++ replicate (64 - length f) 0 ++ termAreaOf L
 
 unfoldable pub entriesOf : List Line → List Entry
 entriesOf [] = []
@@ -47,17 +47,13 @@ abbrev pub imageOf : ℕ → List Line → Memory
 imageOf n L = record {
   variables = n;
   lines = length L;
-  terms = termsOf L ++ replicate (64 * (128 - length L)) 0;
+  terms = termAreaOf L ++ replicate (64 * (128 - length L)) 0;
   table = entriesOf L ++ replicate (128 - length L) unused;
 }
 
 -- ---- the tests 1 and 2
 abbrev pub sized : Memory → Bool
 sized m = eqb (length (m .terms)) 8192 && eqb (length (m .table)) 128
-
--- a configuration of n variables that can be held: at most 128 lines, each of which fits, in order, every weight in range
-abbrev pub holds : ℕ → List Line → Bool
-holds n L = leb n 32 && (leb (length L) 128 && (linesFit n L && weightsFit L))
 
 -- two runs are the same, place by place, by a test of two places
 unfoldable pub alike : {A : Type 0} → (A → A → Bool) → List A → List A → Bool
@@ -79,9 +75,9 @@ abbrev pub sameMemory : Memory → Memory → Bool
 sameMemory m k =
     eqb (m .variables) (k .variables) && (eqb (m .lines) (k .lines) && (alike eqb (m .terms) (k .terms) && alike sameEntry (m .table) (k .table)))
 
--- well formed: the memory is the image of its own configuration, which can be held, and has as many lines as its head says
+-- well formed: what the memory holds is a configuration, of which the memory is the image, and it has as many lines as its head says
 abbrev pub wellFormed : Memory → Bool
-wellFormed m = holds (m .variables) (standingOf m) && sameMemory m (imageOf (m .variables) (standingOf m))
+wellFormed m = isConfiguration (m .variables) (standingOf m) && sameMemory m (imageOf (m .variables) (standingOf m))
 
 -- ---- a memory as a function is lent it, with the line table by value: `memoryAt` is for what it asks, `memoryBefore` and `memoryAfter` for what it promises
 abbrev pub memoryAt : Head → RefT (List ℕ) → List Entry → Memory

@@ -10,14 +10,13 @@ use lib.Dec.{T, eqb, eqb→eq, eqb-refl, leb, leb→le, le→leb}
 use lib.IntN.{ℤ, pos, negsuc}
 use lib.ListN.{length, take, drop, replicate, length-append, length-drop, length-replicate, take-append-drop, replicate-append-replicate}
 use lib.Seq.{slice, take-at, drop-at, take-take, take-append-seam, drop-append-seam, length-take-le, length-slice}
-use Rattle.run.specs.Boolean.{left, right, both, eq→eqb}
+use Rattle.run.specs.BooleanLaws.{left, right, both, eq→eqb}
 use Rattle.configuration.specs.Weight.{isZero}
-use Rattle.configuration.specs.Configuration.{Line, line, linesFit, weightsFit}
-use Rattle.configuration.specs.Memory.{zeros}
-use Rattle.configuration.specs.MemoryLaws.{Short, fits-short, zeros-replicate, replicate-zeros}
+use Rattle.configuration.specs.Configuration.{Line, line, linesFit, weightsFit, isConfiguration}
+use Rattle.configuration.specs.LineLaws.{Short, IsConfiguration, configuration-parts, parts-configuration, configuration-short}
 use Rattle.memory.specs.declared.Entry.{Entry}
-use Rattle.memory.specs.Memory.{Memory, readLines, standingOf, termsOf, entriesOf, unused, imageOf, sized, holds, alike, sameWeight, sameEntry, sameMemory, wellFormed}
-use Rattle.memory.specs.Layout.{rowCleared, cleared, isUnused, allUnused}
+use Rattle.memory.specs.Memory.{Memory, readLines, standingOf, termAreaOf, entriesOf, unused, imageOf, sized, alike, sameWeight, sameEntry, sameMemory, wellFormed}
+use Rattle.memory.specs.Layout.{zeros, rowCleared, cleared, isUnused, allUnused}
 
 -- ---- equality by a test
 module _ {A : Type 0} (same : A → A → Bool) where
@@ -74,71 +73,55 @@ memory-self m =
     both (eqb (m .variables) (m .variables)) (eqb (m .lines) (m .lines) && (c && d)) (eqb-refl (m .variables))
     (both (eqb (m .lines) (m .lines)) (c && d) (eqb-refl (m .lines)) (both c d (alike-self eqb eqb-refl (m .terms)) (alike-self sameEntry entry-self (m .table))))
 
--- ---- what can be held
-pub record Held (n : ℕ) (L : List Line) : Type 0 where
-  pub variables : n ≤ 32
-  pub room : length L ≤ 128
-  pub fit : T (linesFit n L)
-  pub weights : T (weightsFit L)
+-- ---- zeros
+pub zeros-replicate : (l : List ℕ) → T (zeros l) → l ≡ replicate (length l) 0
+unfolding zeros
+zeros-replicate [] h = refl
+zeros-replicate (x ∷ l) h = ap₂ (λ (y : ℕ) (m : List ℕ). y ∷ m) (eqb→eq x 0 (left (eqb x 0) (zeros l) h)) (zeros-replicate l (right (eqb x 0) (zeros l) h))
 
-pub holds-parts : (n : ℕ) (L : List Line) → T (holds n L) → Held n L
-holds-parts n L t =
-    let a : Bool = leb n 32 in
-    let b : Bool = leb (length L) 128 in
-    let c : Bool = linesFit n L in
-    let d : Bool = weightsFit L in
-    let u : T (b && (c && d)) = right a (b && (c && d)) t in
-    let v : T (c && d) = right b (c && d) u in
-    record { variables = leb→le n 32 (left a (b && (c && d)) t); room = leb→le (length L) 128 (left b (c && d) u); fit = left c d v; weights = right c d v }
-
-pub parts-hold : (n : ℕ) (L : List Line) → Held n L → T (holds n L)
-parts-hold n L h =
-    let c : Bool = linesFit n L in
-    let d : Bool = weightsFit L in
-    both (leb n 32) (leb (length L) 128 && (c && d)) (le→leb n 32 (h .variables))
-    (both (leb (length L) 128) (c && d) (le→leb (length L) 128 (h .room)) (both c d (h .fit) (h .weights)))
-
-pub held-short : {n : ℕ} {L : List Line} → Held n L → Short L
-held-short {n} {L} h = fits-short n L (h .fit)
+pub replicate-zeros : (n : ℕ) → T (zeros (replicate n 0))
+unfolding zeros
+replicate-zeros zero = tt
+replicate-zeros (suc n) = replicate-zeros n
 
 -- ---- lines laid out and read back, whatever stands behind them
 padded : (f : List ℕ) → length f ≤ 64 → length (f ++ replicate (64 - length f) 0) ≡ 64
 padded f h = simp (length-append, length-replicate) (omega arith)
 
-read-laid : (L : List Line) (x : List ℕ) (y : List Entry) → Short L → readLines (length L) (termsOf L ++ x) (entriesOf L ++ y) ≡ L
-unfolding readLines termsOf entriesOf
+read-laid : (L : List Line) (x : List ℕ) (y : List Entry) → Short L → readLines (length L) (termAreaOf L ++ x) (entriesOf L ++ y) ≡ L
+unfolding readLines termAreaOf entriesOf
 read-laid [] x y s = refl
 read-laid (line f w ∷ L) x y s =
     let p : List ℕ = f ++ replicate (64 - length f) 0 in
-    rw (append-assoc p (termsOf L) x, drop-at p (termsOf L ++ x) 64 (padded f (s .0)), read-laid L x y (s .1))
-    (rw (append-assoc f (replicate (64 - length f) 0) (termsOf L ++ x), take-append-seam f (replicate (64 - length f) 0 ++ (termsOf L ++ x))))
+    rw (append-assoc p (termAreaOf L) x, drop-at p (termAreaOf L ++ x) 64 (padded f (s .0)), read-laid L x y (s .1))
+    (rw (append-assoc f (replicate (64 - length f) 0) (termAreaOf L ++ x), take-append-seam f (replicate (64 - length f) 0 ++ (termAreaOf L ++ x))))
 
-pub there-and-back : (n : ℕ) (L : List Line) → T (holds n L) → standingOf (imageOf n L) ≡ L
-there-and-back n L h = read-laid L (replicate (64 * (128 - length L)) 0) (replicate (128 - length L) unused) (held-short (holds-parts n L h))
+pub there-and-back : (n : ℕ) (L : List Line) → T (isConfiguration n L) → standingOf (imageOf n L) ≡ L
+there-and-back n L h = read-laid L (replicate (64 * (128 - length L)) 0) (replicate (128 - length L) unused) (configuration-short (configuration-parts n L h))
 
 -- ---- well formed
-pub image-well : (n : ℕ) (L : List Line) → T (holds n L) → T (wellFormed (imageOf n L))
+pub image-well : (n : ℕ) (L : List Line) → T (isConfiguration n L) → T (wellFormed (imageOf n L))
 image-well n L h =
-    rw (there-and-back n L h) (both (holds n L) (sameMemory (imageOf n L) (imageOf n L)) h (memory-self (imageOf n L)))
+    rw (there-and-back n L h) (both (isConfiguration n L) (sameMemory (imageOf n L) (imageOf n L)) h (memory-self (imageOf n L)))
 
 module _ (m : Memory) (h : T (wellFormed m)) where
   pub well-image : m ≡ imageOf (m .variables) (standingOf m)
   well-image =
       memory-is m (imageOf (m .variables) (standingOf m))
-      (right (holds (m .variables) (standingOf m)) (sameMemory m (imageOf (m .variables) (standingOf m))) h)
+      (right (isConfiguration (m .variables) (standingOf m)) (sameMemory m (imageOf (m .variables) (standingOf m))) h)
 
-  pub well-holds : T (holds (m .variables) (standingOf m))
-  well-holds = left (holds (m .variables) (standingOf m)) (sameMemory m (imageOf (m .variables) (standingOf m))) h
+  pub well-configuration : T (isConfiguration (m .variables) (standingOf m))
+  well-configuration = left (isConfiguration (m .variables) (standingOf m)) (sameMemory m (imageOf (m .variables) (standingOf m))) h
 
-  pub well-held : Held (m .variables) (standingOf m)
-  well-held = holds-parts (m .variables) (standingOf m) well-holds
+  pub well-parts : IsConfiguration (m .variables) (standingOf m)
+  well-parts = configuration-parts (m .variables) (standingOf m) well-configuration
 
 -- ---- lengths
-pub length-terms : (L : List Line) → Short L → length (termsOf L) ≡ 64 * length L
-unfolding termsOf
+pub length-terms : (L : List Line) → Short L → length (termAreaOf L) ≡ 64 * length L
+unfolding termAreaOf
 length-terms [] s = refl
 length-terms (line f w ∷ L) s =
-    length-append (f ++ replicate (64 - length f) 0) (termsOf L) ∙ omega (arith, padded f (s .0), length-terms L (s .1))
+    length-append (f ++ replicate (64 - length f) 0) (termAreaOf L) ∙ omega (arith, padded f (s .0), length-terms L (s .1))
 
 pub length-entries : (L : List Line) → length (entriesOf L) ≡ length L
 unfolding entriesOf
@@ -165,18 +148,18 @@ cleared-none (suc n) =
     next : (n : ℕ) → 64 * suc n ≡ 64 + 64 * n
     next n = omega arith
 
-cleared-lines : (L : List Line) (x : List ℕ) (y : List Entry) → Short L → T (cleared x y) → T (cleared (termsOf L ++ x) (entriesOf L ++ y))
-unfolding cleared termsOf entriesOf
+cleared-lines : (L : List Line) (x : List ℕ) (y : List Entry) → Short L → T (cleared x y) → T (cleared (termAreaOf L ++ x) (entriesOf L ++ y))
+unfolding cleared termAreaOf entriesOf
 cleared-lines [] x y s h = h
 cleared-lines (line f w ∷ L) x y s h =
     let p : List ℕ = f ++ replicate (64 - length f) 0 in
     let z : List ℕ = replicate (64 - length f) 0 in
     rw (
-      append-assoc p (termsOf L) x,
-      drop-at p (termsOf L ++ x) 64 (padded f (s .0)),
-      take-at p (termsOf L ++ x) 64 (padded f (s .0)),
+      append-assoc p (termAreaOf L) x,
+      drop-at p (termAreaOf L ++ x) 64 (padded f (s .0)),
+      take-at p (termAreaOf L ++ x) 64 (padded f (s .0)),
       drop-append-seam f z,
-    ) (both (leb (length f) 64 && zeros z) (cleared (termsOf L ++ x) (entriesOf L ++ y))
+    ) (both (leb (length f) 64 && zeros z) (cleared (termAreaOf L ++ x) (entriesOf L ++ y))
     (both (leb (length f) 64) (zeros z) (le→leb (length f) 64 (s .0)) (replicate-zeros (64 - length f))) (cleared-lines L x y (s .1) h))
 
 pub image-cleared : (n : ℕ) (L : List Line) → Short L → T (cleared (imageOf n L .terms) (imageOf n L .table))
@@ -184,7 +167,7 @@ image-cleared n L s = cleared-lines L (replicate (64 * (128 - length L)) 0) (rep
 
 -- the image of no lines, with which a filing begins
 pub none-image : (n : ℕ) → imageOf n [] ≡ record { variables = n; lines = 0; terms = replicate 8192 0; table = replicate 128 unused }
-unfolding termsOf entriesOf
+unfolding termAreaOf entriesOf
 none-image n = refl
 
 pub none-cleared : T (cleared (replicate 8192 0) (replicate 128 unused))
@@ -256,8 +239,8 @@ none-zero ts (e ∷ t) h u l =
     next n = omega arith
 
 cleared-terms : (k : ℕ) (ts : List ℕ) (t : List Entry) → T (cleared ts t) → T (allUnused (drop k t)) → k ≤ length t → length ts ≡ 64 * length t
-    → ts ≡ termsOf (readLines k ts t) ++ replicate (64 * (length t - k)) 0
-unfolding readLines termsOf
+    → ts ≡ termAreaOf (readLines k ts t) ++ replicate (64 * (length t - k)) 0
+unfolding readLines termAreaOf
 cleared-terms zero ts t h u k l = rw (sub-zero (length t)) (none-zero ts t h u l)
 cleared-terms (suc k) ts [] h u b l = absurd (not-suc-le-zero b)
 cleared-terms (suc k) ts (e ∷ t) h u b l =
@@ -268,7 +251,7 @@ cleared-terms (suc k) ts (e ∷ t) h u b l =
     (sym (take-append-drop 64 ts)
     ∙ ap₂ (λ (x y : List ℕ). x ++ y) (row-is ts e (first-cleared ts e t h) (omega arith))
     (cleared-terms k (drop 64 ts) t (rest-cleared ts e t h) u (le-of-suc-le-suc b) (omega (arith, length-drop 64 ts)))
-    ∙ sym (append-assoc (f ++ replicate (64 - length f) 0) (termsOf L) z))
+    ∙ sym (append-assoc (f ++ replicate (64 - length f) 0) (termAreaOf L) z))
 
 cleared-entries : (k : ℕ) (ts : List ℕ) (t : List Entry) → T (cleared ts t) → T (allUnused (drop k t)) → k ≤ length t → length ts ≡ 64 * length t
     → t ≡ entriesOf (readLines k ts t) ++ replicate (length t - k) unused
@@ -297,8 +280,8 @@ well-formed m h =
     let L : List Line = standingOf m in
     let i : Memory = imageOf (m .variables) L in
     let e : m ≡ i = well-image m h in
-    let q : Held (m .variables) L = well-held m h in
-    let s : Short L = held-short q in
+    let q : IsConfiguration (m .variables) L = well-parts m h in
+    let s : Short L = configuration-short q in
     let z : ℕ = 128 - length L in
     let lt : length (i .terms) ≡ 8192 = simp (length-append, length-replicate) (omega (arith, length-terms L s, q .room)) in
     let le : length (i .table) ≡ 128 = simp (length-append, length-replicate) (omega (arith, length-entries L, q .room)) in
@@ -329,6 +312,6 @@ formed-well m q =
     let et : m .terms ≡ imageOf (m .variables) L .terms = rw z at (cleared-terms (m .lines) (m .terms) (m .table) (q .rows) (q .behind) b l) in
     let ee : m .table ≡ imageOf (m .variables) L .table = rw z at (cleared-entries (m .lines) (m .terms) (m .table) (q .rows) (q .behind) b l) in
     let e : m ≡ imageOf (m .variables) L = λ i. record { variables = m .variables; lines = sym k i; terms = et i; table = ee i } in
-    both (holds (m .variables) L) (sameMemory m (imageOf (m .variables) L))
-    (parts-hold (m .variables) L (record { variables = q .variables; room = omega (arith, q .room); fit = q .fit; weights = q .weights }))
+    both (isConfiguration (m .variables) L) (sameMemory m (imageOf (m .variables) L))
+    (parts-configuration (m .variables) L (record { variables = q .variables; room = omega (arith, q .room); fit = q .fit; weights = q .weights }))
     (subst (λ (x : Memory). T (sameMemory m x)) e (memory-self m))

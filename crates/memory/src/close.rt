@@ -1,5 +1,6 @@
 // From the working form back to what is lent.
 use crate::Entry;
+use crate::area::clear_part;
 use crate::entries::no_entries;
 use polynomial::area::write;
 use table::lines::row;
@@ -10,7 +11,7 @@ ghost use Prim.Native.Nat.{ℕ, _+_, _-_, _*_, _≤_};
 ghost use lib.Dec.{T};
 ghost use lib.ListN.{length, take, drop, replicate};
 ghost use Rattle.table.specs.Rows.{tableAt, tableBefore, linesOf, Fits};
-ghost use Rattle.memory.specs.Memory.{memoryAfter, termsOf, entriesOf, unused, imageOf};
+ghost use Rattle.memory.specs.Memory.{memoryAfter, termAreaOf, entriesOf, unused, imageOf};
 ghost use Rattle.memory.specs.Layout.{rowCleared, cleared, ClearedFrom};
 
 // Sets every place of a term area to zero: with no entries it is the image of no lines. It is for the crate
@@ -19,7 +20,7 @@ pub fn clear(terms: &mut [u32])
     ensures { λ _. ⌜ now (terms .exit) ≡ replicate (length (now (terms .entry))) 0 ⌝ }
 {
     let places = terms.len();
-    configuration::area::clear(terms, 0, places);
+    clear_part(terms, 0, places);
 }
 
 // Sets the places of a row from a count on to zero: those that the line counted which had the row before.
@@ -33,7 +34,7 @@ fn clear_behind(terms: &mut [u32], i: usize, count: usize, old: Entry)
     }
     let start = 64 * i + count;
     let end = 64 * i + used;
-    configuration::area::clear(terms, start, end);
+    clear_part(terms, start, end);
 }
 
 // Writes the terms of a line into its row, and zeros behind them.
@@ -59,7 +60,7 @@ fn put_lines(
 ) -> [Entry; 128]
     requires { ⌜ Fits 128 (tableAt lines order rows weights counts) × (length (now terms) ≡ 8192) × ClearedFrom 0 (now terms) before ⌝ }
     ensures terms { λ _. let N = linesOf (tableBefore lines order rows weights counts) in
-        ⌜ now (terms .exit) ≡ termsOf N ++ drop (64 * lines) (now (terms .entry)) ⌝ }
+        ⌜ now (terms .exit) ≡ termAreaOf N ++ drop (64 * lines) (now (terms .entry)) ⌝ }
     ensures entries { λ r. ⌜ r ≡ entriesOf (linesOf (tableBefore lines order rows weights counts)) ++ replicate (128 - lines) unused ⌝ }
 {
     let mut entries = no_entries();

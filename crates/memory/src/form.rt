@@ -1,8 +1,9 @@
 // The test 'well formed'.
 use crate::Entry;
 use crate::Head;
-use configuration::area::is_zero;
+use crate::area::is_zero;
 use configuration::form::is_below;
+use configuration::weight::within_limit;
 use polynomial::Ordering;
 use polynomial::Polynomial;
 use polynomial::order::compare;
@@ -18,16 +19,6 @@ ghost use Rattle.configuration.specs.Weight.{inRange};
 ghost use Rattle.configuration.specs.Configuration.{line, byOrder, isPolynomial, lineFits, linesFit, weightsFit};
 ghost use Rattle.memory.specs.Memory.{readLines, memoryBefore, wellFormed};
 ghost use Rattle.memory.specs.Layout.{rowCleared, cleared, isUnused, allUnused};
-
-// Whether a weight is from -10^12 to 10^12.
-fn within_limit(weight: i64) -> bool
-    ensures { λ r. ⌜ r ≡ inRange weight ⌝ }
-{
-    if weight < -1000000000000 {
-        return false;
-    }
-    weight <= 1000000000000
-}
 
 // Whether a run of terms is a polynomial of so many variables.
 fn is_polynomial(variables: u32, terms: &[u32]) -> bool

@@ -1,6 +1,6 @@
 // What callers lend, and the working form of what it holds: the head, the term area and the line table, whether they are well
-// formed, and how lines are read from them and written back. No operation uses this crate yet: where a comment
-// names `checker`, that is the crate whose operations are to.
+// formed, and how lines are read from them and written back. The operations of the crate `checker` call it.
+pub mod area;
 pub mod close;
 pub mod entries;
 pub mod form;

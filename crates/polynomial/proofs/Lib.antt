@@ -1,5 +1,3 @@
 pub mod OrderSteps
 pub mod Keys
-pub mod Subsets
 pub mod ToggleSteps
-pub mod FewSteps

@@ -3,5 +3,3 @@ pub mod PolynomialLaws
 pub mod ClauseLaws
 pub mod OrderingLaws
 pub mod ToggleLaws
-pub mod Few
-pub mod FewLaws

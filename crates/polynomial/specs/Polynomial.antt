@@ -1,16 +1,16 @@
 -- Polynomials over F2. Document 01: "A polynomial is a set of at most 64 terms. Adding the same term twice removes it."
 -- Here a polynomial is the list of its terms in strict written order, of any length; the limit of 64 is the struct's.
 use mathlib.Core.Bool.{Bool, false, cond, not, _&&_, _||_}
-use mathlib.Core.List.{List, [], _∷_, _++_, map}
-use Prim.Native.Nat.{ℕ, zero, suc, _-_, _/_, _%_, _^_, _<_}
-use lib.Dec.{T, eqb, leb}
-use lib.Bits.{bitOr}
+use mathlib.Core.List.{List, [], _∷_, _++_}
+use Prim.Native.Nat.{ℕ, zero, suc, _-_, _^_, _<_}
+use lib.Dec.{eqb, leb}
 use lib.ListN.{length, take, drop, replicate}
 use Rattle.term.specs.Term.{value, before}
 use Rattle.run.specs.F2.{_⊕_}
 use Rattle.run.specs.Run.{normalBy, Sorted, All}
+use Rattle.mask.specs.Mask.{has, unions}
 use Rattle.polynomial.specs.declared.Polynomial.{Polynomial}
-use Rattle.polynomial.specs.declared.Outcome.{Outcome}
+use Rattle.polynomial.specs.declared.Measured.{Measured}
 use Rattle.polynomial.specs.declared.Ordering.{Ordering}
 use Rattle.polynomial.specs.declared.Ordering.the-variants.{Earlier, Same, Later}
 
@@ -30,20 +30,11 @@ eval (t ∷ f) α = value t α ⊕ eval f α
 abbrev pub normal : List ℕ → List ℕ
 normal l = normalBy before l
 
--- the products of each term of f with each term of g
-unfoldable pub unions : List ℕ → List ℕ → List ℕ
-unions [] g = []
-unions (t ∷ f) g = map (bitOr t) g ++ unions f g
-
 abbrev pub sumOf : List ℕ → List ℕ → List ℕ
 sumOf f g = normal (f ++ g)
 
 abbrev pub productOf : List ℕ → List ℕ → List ℕ
 productOf f g = normal (unions f g)
-
--- whether variable i, counted from 0, is in a mask
-abbrev pub has : ℕ → ℕ → Bool
-has i m = eqb (m / 2 ^ i % 2) 1
 
 -- "A clause becomes a product: a factor (x + 1) for each plain literal, a factor x for each negated one."
 abbrev pub plainFactor : ℕ → ℕ → List ℕ
@@ -59,11 +50,6 @@ factors (suc d) plain negated = productOf (plainFactor d plain) (productOf (nega
 
 abbrev pub clauseOf : ℕ → ℕ → List ℕ
 clauseOf plain negated = factors 32 plain negated
-
--- the subsets of a mask's first d variables
-unfoldable pub subsetsOf : ℕ → ℕ → List ℕ
-subsetsOf zero m = 0 ∷ []
-subsetsOf (suc d) m = cond (has d m) (subsetsOf d m ++ map (bitOr (2 ^ d)) (subsetsOf d m)) (subsetsOf d m)
 
 -- a clause is met where one of the literals of the first d variables is: a plain one whose variable is 1, a negated one whose variable is 0
 unfoldable pub metBy : ℕ → ℕ → ℕ → ℕ → Bool
@@ -85,14 +71,11 @@ abbrev pub Ordered : List ℕ → Type 0
 Ordered f = Sorted before f
 
 -- how many terms of a polynomial stand before a term
-unfoldable pub placeOf : ℕ → List ℕ → ℕ
-placeOf t [] = 0
-placeOf t (u ∷ f) = cond (before u t) (suc (placeOf t f)) 0
+unfoldable pub termsAhead : ℕ → List ℕ → ℕ
+termsAhead t [] = 0
+termsAhead t (u ∷ f) = cond (before u t) (suc (termsAhead t f)) 0
 
--- every term has its variables within a mask; every term has its variables among the first n
-abbrev pub Uses : ℕ → List ℕ → Type 0
-Uses m f = All (λ t. T (value t m)) f
-
+-- every term has its variables among the first n
 abbrev pub Below : ℕ → List ℕ → Type 0
 Below n f = All (λ t. t < 2 ^ n) f
 
@@ -105,8 +88,8 @@ abbrev pub polynomialOf : List ℕ → Polynomial
 polynomialOf l = record { terms = l ++ replicate (64 - length l) 0; count = length l }
 
 -- the answer for an exact result: its length, and the polynomial itself where that is at most 64, else 0
-abbrev pub outcomeOf : List ℕ → Outcome
-outcomeOf l = record { length = length l; polynomial = cond (leb (length l) 64) (polynomialOf l) (polynomialOf ZERO) }
+abbrev pub measuredOf : List ℕ → Measured
+measuredOf l = record { length = length l; polynomial = cond (leb (length l) 64) (polynomialOf l) (polynomialOf ZERO) }
 
 -- ---- lent runs and areas
 -- what is answered of a sum or a product l of two runs: a run of more than 64 terms is no polynomial and stands for itself, f before g; else l

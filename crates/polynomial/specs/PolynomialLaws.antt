@@ -11,13 +11,16 @@ use lib.Pow.{pow-pos}
 use lib.Seq.{take-at}
 use borrow.Author.Tests.{le-leb, lt-leb}
 use Rattle.term.specs.Term.{value, before}
-use Rattle.run.specs.Boolean.{both, is-true, cond-ind, of-true}
-use Rattle.term.specs.TermLaws.{value-or, value-one, value-self, below-value, value-below}
+use Rattle.run.specs.BooleanLaws.{is-true, cond-ind}
+use Rattle.term.specs.TermLaws.{value-or, value-one, value-self}
 use Rattle.term.specs.OrderLaws.{before-irrefl, before-trans, before-total, value-before}
-use Rattle.run.specs.F2.{_⊕_, ⊕-assoc, ⊕-left, ⊕-cancel, ⊕-self, ⊕-zero, &&-⊕, ⊕-&&}
-use Rattle.run.specs.Run.{StrictOrder, toggleBy, normalBy, After, All, odd}
+use Rattle.run.specs.F2.{_⊕_}
+use Rattle.run.specs.F2Laws.{⊕-assoc, ⊕-left, ⊕-cancel, ⊕-self, ⊕-zero, &&-⊕, ⊕-&&}
+use Rattle.run.specs.Run.{StrictOrder, toggleBy, normalBy, After, odd}
 use Rattle.run.specs.RunLaws.{odd-append, odd-normal, odd-unique, normal-all, normal-sorted, all-append}
-use Rattle.polynomial.specs.Polynomial.{ONE, eval, normal, unions, sumOf, productOf, Ordered, Uses, Below, termsOf, polynomialOf, firstLong, placed}
+use Rattle.mask.specs.Mask.{unions, Uses}
+use Rattle.mask.specs.MaskLaws.{unions-uses, uses-below, below-uses}
+use Rattle.polynomial.specs.Polynomial.{ONE, eval, normal, sumOf, productOf, Ordered, Below, termsOf, polynomialOf, firstLong, placed}
 use Rattle.polynomial.specs.declared.Polynomial.{Polynomial}
 
 -- the written order is a strict total order
@@ -73,40 +76,11 @@ sum-ordered f g = normal-sorted before written (f ++ g)
 pub product-ordered : (f g : List ℕ) → Ordered (productOf f g)
 product-ordered f g = normal-sorted before written (unions f g)
 
--- ---- what holds of each product of two terms
-pub times-all : (Q R : ℕ → Type 0) (t : ℕ) (g : List ℕ) → ((u : ℕ) → Q u → R (bitOr t u)) → All Q g → All R (map (bitOr t) g)
-times-all Q R t [] h b = tt
-times-all Q R t (u ∷ g) h b = (h u (b .0), times-all Q R t g h (b .1))
-
-pub unions-all : (P Q R : ℕ → Type 0) (f g : List ℕ) → ((t u : ℕ) → P t → Q u → R (bitOr t u)) → All P f → All Q g → All R (unions f g)
-unfolding unions
-unions-all P Q R [] g h a b = tt
-unions-all P Q R (t ∷ f) g h a b = all-append R (map (bitOr t) g) (unions f g) (times-all Q R t g (λ u. h t u (a .0)) b) (unions-all P Q R f g h (a .1) b)
-
--- ---- results use only variables of their operands
-or-within : (m t u : ℕ) → T (value t m) → T (value u m) → T (value (bitOr t u) m)
-or-within m t u h k = of-true (value-or t u m ∙ is-true (value t m && value u m) (both (value t m) (value u m) h k))
-
-pub times-uses : (m t : ℕ) (g : List ℕ) → T (value t m) → Uses m g → Uses m (map (bitOr t) g)
-times-uses m t g h b = times-all (λ x. T (value x m)) (λ x. T (value x m)) t g (λ u. or-within m t u h) b
-
-pub unions-uses : (m : ℕ) (f g : List ℕ) → Uses m f → Uses m g → Uses m (unions f g)
-unions-uses m f g a b = unions-all (λ x. T (value x m)) (λ x. T (value x m)) (λ x. T (value x m)) f g (or-within m) a b
-
 pub sum-uses : (m : ℕ) (f g : List ℕ) → Uses m f → Uses m g → Uses m (sumOf f g)
 sum-uses m f g a b = normal-all before (λ x. T (value x m)) (f ++ g) (all-append (λ x. T (value x m)) f g a b)
 
 pub product-uses : (m : ℕ) (f g : List ℕ) → Uses m f → Uses m g → Uses m (productOf f g)
 product-uses m f g a b = normal-all before (λ x. T (value x m)) (unions f g) (unions-uses m f g a b)
-
--- using the first n variables alone is being below 2 ^ n
-pub uses-below : (n : ℕ) (f : List ℕ) → Uses (2 ^ n - 1) f → Below n f
-uses-below n [] a = tt
-uses-below n (t ∷ f) a = (value-below n t (a .0), uses-below n f (a .1))
-
-pub below-uses : (n : ℕ) (f : List ℕ) → Below n f → Uses (2 ^ n - 1) f
-below-uses n [] a = tt
-below-uses n (t ∷ f) a = (below-value n t (a .0), below-uses n f (a .1))
 
 pub sum-below : (n : ℕ) (f g : List ℕ) → Below n f → Below n g → Below n (sumOf f g)
 sum-below n f g a b = uses-below n (sumOf f g) (sum-uses (2 ^ n - 1) f g (below-uses n f a) (below-uses n g b))

@@ -1,33 +1,16 @@
 // The product of two runs of terms.
 use crate::area::write;
-use crate::few::common;
-use crate::few::most_variables;
 use crate::few::product_few;
-use crate::few::varying;
 use crate::sorting::write_masks;
 use crate::toggle::toggle_all;
+use mask::few::common;
+use mask::few::most_variables;
+use mask::few::varying;
+use mask::keys::ordered_products;
 ghost use mathlib.Core.Path.{_≡_};
-ghost use mathlib.Core.List.{map};
 ghost use Prim.Native.Nat.{_*_, _≤_};
 ghost use lib.ListN.{length, take};
-ghost use Rattle.term.specs.Term.{keyOf};
-ghost use Rattle.polynomial.specs.Polynomial.{unions, productOf, placed};
-
-// Writes the keys of the products of each term of f with each term of g.
-fn products(f: &[u32], g: &[u32], out: &mut [u64])
-    requires { ⌜ length (now out) ≡ length (now f) * length (now g) ⌝ }
-    ensures { λ _. ⌜ now (out .exit) ≡ map keyOf (unions (now (f .entry)) (now (g .entry))) ⌝ }
-{
-    let width = g.len();
-    let mut at: usize = 0;
-    let mut i: usize = 0;
-    while i < f.len() {
-        let next = at + width;
-        term::keys_with(f[i], g, &mut out[at..next]);
-        at = next;
-        i += 1;
-    }
-}
+ghost use Rattle.polynomial.specs.Polynomial.{productOf, placed};
 
 // The product of two runs of terms by adding the products of their terms one by one, in an area with room for all.
 fn short_product(f: &[u32], g: &[u32], out: &mut [u32]) -> usize
@@ -50,9 +33,7 @@ fn product_in(f: &[u32], g: &[u32], keys: &mut [u64], spare: &mut [u64], out: &m
     ensures size { λ r. ⌜ r ≡ length (productOf (now (f .entry)) (now (g .entry))) ⌝ }
     ensures product { λ _. ⌜ now (out .exit) ≡ placed (productOf (now (f .entry)) (now (g .entry))) (now (out .entry)) ⌝ }
 {
-    let n = f.len() * g.len();
-    products(f, g, &mut keys[..n]);
-    let count = run::cancel(&mut keys[..n], &mut spare[..n]);
+    let count = ordered_products(f, g, keys, spare);
     write_masks(&keys[..count], out)
 }
 

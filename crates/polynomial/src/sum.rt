@@ -1,8 +1,8 @@
 // The sum of two runs of terms.
 use crate::area::write;
-use crate::sorting::ordered_keys;
 use crate::sorting::write_masks;
 use crate::toggle::toggle_all;
+use mask::keys::ordered_keys;
 ghost use mathlib.Core.Path.{_≡_};
 ghost use Prim.Native.Nat.{_≤_};
 ghost use lib.ListN.{length};

@@ -1,4 +1,4 @@
-pub mod Folds
-pub mod Next
 pub mod Records
+pub mod Next
+pub mod Brought
 pub mod Walks

@@ -1,128 +1,92 @@
--- What a record leaves in code, and that it is ready for the next: after a refusal, after V, after M.
-use mathlib.Core.Path.{_≡_, sym, ap, subst, _∙_}
-use mathlib.Core.Bool.{true, false, not}
+-- What a record that touches no line leaves in code: after a refusal, after V, after M.
+use mathlib.Core.Path.{_≡_, refl, sym, ap, subst, _∙_}
+use mathlib.Core.Bool.{true}
 use mathlib.Core.List.{List, []}
-use Prim.Native.Nat.{ℕ, suc, _+_, _≤_, _<_}
+use Prim.Native.Nat.{ℕ, suc, _+_, _≤_}
 use native.Mathlib.Omega.{arith}
-use lib.Dec.{T}
 use lib.IntN.{ℤ}
 use lib.ListN.{length, take}
-use Rattle.run.specs.Boolean.{of-true}
-use Rattle.configuration.specs.Configuration.{isPolynomial, linesFit, weightsFit}
-use Rattle.configuration.specs.FormLaws.{none-polynomial}
-use Rattle.configuration.specs.Memory.{Memory, readLines, imageOf, wellFormed}
-use Rattle.configuration.specs.Index.{indexedOf, Kept}
-use Rattle.configuration.specs.MemoryLaws.{image-wellFormed}
-use Rattle.configuration.specs.declared.Head.{Head}
+use Rattle.refusal.specs.Outcome.{Outcome, accepted, refused, Reached, after, stopOf}
+use Rattle.refusal.specs.declared.Objection.{Objection}
+use Rattle.refusal.specs.declared.Objection.the-variants.{Nothing, Found}
 use Rattle.refusal.specs.Refusal.{numberOf}
 use Rattle.refusal.specs.declared.Reason.{Reason}
-use Rattle.walk.specs.Walk.{Outcome, accepted, turnedDown, past, stopOf, Walked, after}
-use Rattle.walk.specs.declared.Turn.the-variants.{Accepted, Refused}
-use Rattle.problem.specs.Problem.{State, having}
-use Rattle.problem.specs.Held.{progressOf, Ready}
+use Rattle.table.specs.Rows.{withLines, Table, Fits}
+use Rattle.walk.specs.Walk.{past}
+use Rattle.walk.specs.Work.{termAdded}
+use Rattle.walk.specs.declared.Work.{Work}
+use Rattle.walk.proofs.Adds.{term-refused, term-unmoved, term-accepted}
+use Rattle.problem.specs.Problem.{State, onTerm}
+use Rattle.problem.specs.Held.{progressIn, leftIn, passed, unlessFound, Held, Does}
 use Rattle.problem.specs.declared.Progress.{Progress}
-use Rattle.problem.specs.declared.Step.{Step}
+use Rattle.problem.specs.declared.Recorded.{Recorded}
+use Rattle.problem.proofs.Records.{term-not, term-kept}
 use Rattle.walk.specs.Walk as W
 
-module _ (us is ts : List ℕ) (ws : List ℤ) (cs : List ℕ) where
-  abbrev pub left-by : Step → Walked (W.Progress State)
-  left-by r = record { reached = progressOf (r .progress) us is ts ws cs; stop = stopOf (r .turn) }
+pub one-more : (n : ℕ) → n + 1 ≡ suc n
+one-more n = omega arith
 
-  abbrev pub ready-by : Step → Type 0
-  ready-by r = Ready (r .progress) us is ts ws cs
+-- a table in these areas
+abbrev pub tableIn : List ℕ → List ℕ → List ℤ → List ℕ → Table
+tableIn is ts ws cs = record { lines = 0; order = is; terms = ts; weights = ws; counts = cs }
 
-module _ (us is ts : List ℕ) (ws : List ℤ) (cs : List ℕ) (p : Progress) (ready : Ready p us is ts ws cs) (r : Step) where
-  module _ (reason : Reason) (x : Outcome (W.Progress State)) (e : r ≡ record { progress = p; turn = Refused reason })
-      (k : turnedDown (numberOf reason) ≡ x) where
-    -- a refused record leaves all as it was
-    pub turned-down : (left-by us is ts ws cs r ≡ after (progressOf p us is ts ws cs) x) × ready-by us is ts ws cs r
-    turned-down = (ap (left-by us is ts ws cs) e ∙ ap (after (progressOf p us is ts ws cs)) k, subst (ready-by us is ts ws cs) (sym e) ready)
+-- ---- a refused record leaves all as it was
+pub refused-does : (on : W.Progress State → Outcome (W.Progress State)) (p : Progress) (us : List ℕ) (t : Table) (r : Recorded) (reason : Reason)
+    → r ≡ record { progress = p; objection = Found reason } → refused (numberOf reason) ≡ on (progressIn p us t) → Does on p us t r us t
+refused-does on p us t r reason e k h = (
+  ap (λ (x : Recorded). leftIn x us t) e ∙ ap (after (progressIn p us t)) k,
+  subst (λ (x : Recorded). Held (x .progress) us t) (sym e) h,
+)
 
-    -- M: behind the work polynomial the area may change
-    pub term-down : (vs : List ℕ) → length vs ≡ 64 → take (p .work) vs ≡ take (p .work) us
-        → (left-by vs is ts ws cs r ≡ after (progressOf p us is ts ws cs) x) × ready-by vs is ts ws cs r
-    term-down vs a m = (
-      ap (left-by vs is ts ws cs) e ∙ rw m (ap (after (progressOf p us is ts ws cs)) k),
-      subst (ready-by vs is ts ws cs) (sym e) (record {
-        kept = ready .kept;
-        well = ready .well;
-        polynomial = rw m (ready .polynomial);
-        fresh = rw m (ready .fresh);
-        area = a;
-        room = ready .room;
-        counted = ready .counted;
-      }),
-    )
+-- ---- V: no line is held
+none-fits : (n : ℕ) (t : Table) → Fits 128 (withLines n t) → Fits 128 (withLines 0 t)
+none-fits n t h = record {
+  capacity = h .capacity;
+  room = omega arith;
+  order-length = h .order-length;
+  terms-length = h .terms-length;
+  weights-length = h .weights-length;
+  counts-length = h .counts-length;
+  once = h .once;
+  entered = tt;
+  ordered = tt;
+}
 
-  module _ (size : ℕ) (h : Head) (work : ℕ)
-      (e : r ≡ record { progress = record { at = p .at + size; records = p .records + 1; started = true; head = h; work = work }; turn = Accepted }) where
-    one-more : p .records + 1 ≡ suc (p .records)
-    one-more = omega arith
+pub set-does : (on : W.Progress State → Outcome (W.Progress State)) (p : Progress) (us : List ℕ) (t : Table) (r : Recorded) (n : ℕ)
+    → r ≡ record { progress = passed p 2 n 0 0; objection = Nothing }
+    → accepted (past (progressIn p us t) 2 (record { started = true; variables = n; work = []; lines = [] })) ≡ on (progressIn p us t) → Does on p us t r us t
+set-does on p us t r n e k h = (
+  ap (λ (x : Recorded). leftIn x us t) e ∙ rw (one-more (p .records)) (ap (after (progressIn p us t)) k),
+  subst (λ (x : Recorded). Held (x .progress) us t) (sym e)
+      (record { fits = none-fits (p .lines) t (h .fits); area = h .area; room = omega arith; counted = let c = h .counted in omega arith }),
+)
 
-    -- V: nothing was held, and nothing is
-    none-kept : h .lines ≡ 0 → h .variables ≤ 32 → Kept 128 h is ts ws cs
-    unfolding readLines
-    none-kept l v =
-        let k = ready .kept in record {
-          capacity = k .capacity;
-          variables-bound = v;
-          entries = k .entries;
-          once = k .once;
-          terms-length = k .terms-length;
-          weights-length = k .weights-length;
-          counts-length = k .counts-length;
-          keyed = rw l tt;
-        }
+-- ---- M: the sum's answer says whether the term is kept; the work polynomial stands in us before it and in vs after it
+module _ (s : List ℕ) (p : Progress) (us vs : List ℕ) (w : Work)
+    (sum : _≡_ {A = Reached (List ℕ)} (record { reached = take (w .count) vs; stop = stopOf (w .objection) })
+    (after (take (p .work) us) (termAdded (p .variables) s (p .at + 1) (take (p .work) us))))
+    (room : w .count ≤ 64) (area : length vs ≡ 64) (r : Recorded) (e : r ≡ unlessFound p 5 (p .lines) (w .count) (w .objection)) (started : p .started ≡ true) where
+  pub term-does : (t : Table) → Does (onTerm s) p us t r vs t
+  term-does t h = go (w .objection) refl
+    where
+      n : ℕ
+      n = p .variables
 
-    pub set : p .started ≡ false → h .lines ≡ 0 → h .variables ≤ 32 → work ≡ 0 → 0 < size → (x : Outcome (W.Progress State))
-        → accepted (past (progressOf p us is ts ws cs) size (record { started = true; variables = h .variables; work = []; lines = [] })) ≡ x
-        → (left-by us is ts ws cs r ≡ after (progressOf p us is ts ws cs) x) × ready-by us is ts ws cs r
-    unfolding readLines linesFit weightsFit
-    set n l v w z x k =
-        let f : indexedOf (p .head) is ts ws cs ≡ imageOf 128 0 [] = ready .fresh (of-true (ap not n)) .0 in
-        let m : indexedOf h is ts ws cs ≡ imageOf 128 (h .variables) [] =
-        rw l (ap (λ (m : Memory). record { variables = h .variables; lines = 0; terms = m .terms; weights = m .weights; counts = m .counts }) f) in (
-          ap (left-by us is ts ws cs) e ∙ rw (one-more, l, w) (ap (after (progressOf p us is ts ws cs)) k),
-          subst (ready-by us is ts ws cs) (sym e) (record {
-            kept = none-kept l v;
-            well = subst (λ (m : Memory). T (wellFormed m)) (sym m) (image-wellFormed (h .variables) [] (omega arith) v tt tt);
-            polynomial = rw w (none-polynomial (h .variables));
-            fresh = λ n. absurd n;
-            area = ready .area;
-            room = omega arith;
-            counted = let c = ready .counted in omega arith;
-          }),
-        )
+      q : W.Progress State
+      q = progressIn p us t
 
-    -- M: the lines stay, and the sum is a polynomial again
-    pub summed : (vs : List ℕ) → length vs ≡ 64 → work ≤ 64 → T (isPolynomial (p .head .variables) (take work vs)) → h ≡ p .head → 0 < size
-        → (x : Outcome (W.Progress State))
-        → (let q = progressOf p us is ts ws cs in accepted (past q size (having (take work vs) (q .state .lines) (q .state))) ≡ x)
-        → (left-by vs is ts ws cs r ≡ after (progressOf p us is ts ws cs) x) × ready-by vs is ts ws cs r
-    summed vs a b g d z x k = (
-      ap (left-by vs is ts ws cs) e ∙ rw (one-more, d) (ap (after (progressOf p us is ts ws cs)) k),
-      subst (ready-by vs is ts ws cs) (sym e) (record {
-        kept = rw d (ready .kept);
-        well = rw d (ready .well);
-        polynomial = rw d g;
-        fresh = λ n. absurd n;
-        area = a;
-        room = b;
-        counted = let c = ready .counted in omega arith;
-      }),
-    )
-
--- what holds for all areas that are ready: the answer, and that they are ready again
-module _ (p : Progress) (r : Step) (x : W.Progress State → Outcome (W.Progress State)) where
-  abbrev Answered : List ℕ → List ℕ → List ℕ → List ℕ → List ℤ → List ℕ → Type 0
-  Answered us vs is ts ws cs = left-by vs is ts ws cs r ≡ after (progressOf p us is ts ws cs) (x (progressOf p us is ts ws cs))
-
-  pub for-lines : (us vs : List ℕ) → ((is ts : List ℕ) (ws : List ℤ) (cs : List ℕ) → Ready p us is ts ws cs → Answered us vs is ts ws cs × ready-by vs is ts ws cs r)
-      → ((is ts : List ℕ) (ws : List ℤ) (cs : List ℕ) → Ready p us is ts ws cs → Answered us vs is ts ws cs)
-      × ((is ts : List ℕ) (ws : List ℤ) (cs : List ℕ) → Ready p us is ts ws cs → ready-by vs is ts ws cs r)
-  for-lines us vs f = (λ is ts ws cs h. f is ts ws cs h .0, λ is ts ws cs h. f is ts ws cs h .1)
-
-  pub for-all : ((us is ts : List ℕ) (ws : List ℤ) (cs : List ℕ) → Ready p us is ts ws cs → Answered us us is ts ws cs × ready-by us is ts ws cs r)
-      → ((us is ts : List ℕ) (ws : List ℤ) (cs : List ℕ) → Ready p us is ts ws cs → Answered us us is ts ws cs)
-      × ((us is ts : List ℕ) (ws : List ℤ) (cs : List ℕ) → Ready p us is ts ws cs → ready-by us is ts ws cs r)
-  for-all f = (λ us. for-lines us us (f us) .0, λ us. for-lines us us (f us) .1)
+      go : (o : Objection) → w .objection ≡ o → (leftIn r vs t ≡ after q (onTerm s q)) × Held (r .progress) vs t
+      go Nothing k =
+          let g : r ≡ unlessFound p 5 (p .lines) (w .count) Nothing = e ∙ ap (unlessFound p 5 (p .lines) (w .count)) k in (
+            ap (λ (x : Recorded). leftIn x vs t) g
+                ∙ rw (one-more (p .records)) (ap (after q) (term-kept s q started (take (w .count) vs) (term-accepted n s (p .at + 1) us (p .work) vs w sum k))),
+            subst (λ (x : Recorded). Held (x .progress) vs t) (sym g)
+                (record { fits = h .fits; area = area; room = room; counted = let c = h .counted in omega arith }),
+          )
+      go (Found reason) k =
+          let g : r ≡ unlessFound p 5 (p .lines) (w .count) (Found reason) = e ∙ ap (unlessFound p 5 (p .lines) (w .count)) k in
+          let same : take (p .work) vs ≡ take (p .work) us = term-unmoved n s (p .at + 1) us (p .work) vs w sum reason k (h .area) (h .room) area room in (
+            ap (λ (x : Recorded). leftIn x vs t) g
+                ∙ rw same (ap (after q) (term-not s q started (numberOf reason) (term-refused n s (p .at + 1) us (p .work) vs w sum reason k))),
+            subst (λ (x : Recorded). Held (x .progress) vs t) (sym g) (record { fits = h .fits; area = area; room = h .room; counted = h .counted }),
+          )

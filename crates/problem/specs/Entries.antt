@@ -6,6 +6,7 @@ use lib.Dec.{eqb}
 use lib.ListN.{length, getD}
 use Rattle.polynomial.specs.Polynomial.{eval, clauseOf}
 use Rattle.configuration.specs.Configuration.{Line, line}
+use Rattle.record.specs.Letters.{letterV, letterM, letterW, letterC}
 use Rattle.record.specs.Record.{numberAt, signedAt}
 use Rattle.walk.specs.Walk.{Progress, begun, gathered}
 use Rattle.problem.specs.Problem.{State, empty, filing}
@@ -14,10 +15,10 @@ use Rattle.problem.specs.Problem.{State, empty, filing}
 unfoldable pub entryOf : List ℕ → Progress State → List Line
 entryOf s p =
     let kind = getD s (p .at) 0 in
-    cond (eqb kind 86) []
-    (cond (eqb kind 77) []
-    (cond (eqb kind 87) (line (p .state .work) (signedAt s (p .at + 1)) ∷ [])
-    (cond (eqb kind 67) (line (clauseOf (numberAt 4 s (p .at + 1)) (numberAt 4 s (p .at + 5))) (signedAt s (p .at + 9)) ∷ [])
+    cond (eqb kind letterV) []
+    (cond (eqb kind letterM) []
+    (cond (eqb kind letterW) (line (p .state .work) (signedAt s (p .at + 1)) ∷ [])
+    (cond (eqb kind letterC) (line (clauseOf (numberAt 4 s (p .at + 1)) (numberAt 4 s (p .at + 5))) (signedAt s (p .at + 9)) ∷ [])
     [])))
 
 -- the entries of a filing's accepted records

@@ -1,79 +1,67 @@
--- How code holds the progress of a filing: the lines in the lent areas, by an index, the work polynomial at the front of an area of 64 terms, the rest by value.
+-- How code holds the progress of a filing: the lines in a table, the work polynomial at the front of an area of 64 terms, the rest by value.
 use mathlib.Core.Path.{_≡_}
-use mathlib.Core.Bool.{true, not}
-use mathlib.Core.List.{List, []}
+use mathlib.Core.Bool.{true}
+use mathlib.Core.List.{List}
 use Prim.Native.Nat.{ℕ, _+_, _≤_}
 use lib.Dec.{T}
 use lib.IntN.{ℤ}
 use lib.ListN.{length, take}
-use denote.Ref.{RefT, now}
-use denote.Triple.Both.{Both}
-use Rattle.polynomial.specs.Polynomial.{ZERO}
-use Rattle.configuration.specs.Configuration.{isPolynomial}
-use Rattle.configuration.specs.Memory.{Memory, imageOf, wellFormed}
-use Rattle.configuration.specs.Index.{indexedOf, linesBy, Kept}
-use Rattle.configuration.specs.declared.Head.{Head}
-use Rattle.problem.specs.Problem.{State, lent}
+use Rattle.refusal.specs.Outcome.{Outcome, Reached, after, stopOf, objected}
+use Rattle.refusal.specs.declared.Objection.{Objection}
+use Rattle.refusal.specs.declared.Objection.the-variants.{Nothing, Found}
+use Rattle.polynomial.specs.Polynomial.{Ordered}
+use Rattle.configuration.specs.Configuration.{add, weightsFit}
+use Rattle.configuration.specs.Limits.{within}
+use Rattle.table.specs.Rows.{Table, withLines, linesOf, Fits}
+use Rattle.problem.specs.Problem.{State, folded}
 use Rattle.problem.specs.declared.Progress.{Progress}
-use Rattle.problem.specs.declared.Step.{Step}
+use Rattle.problem.specs.declared.Recorded.{Recorded}
 use Rattle.walk.specs.Walk as W
 
-abbrev pub progressOf : Progress → List ℕ → List ℕ → List ℕ → List ℤ → List ℕ → W.Progress State
-progressOf p us is ts ws cs = record {
+-- ---- progress, where it stands
+-- us has the work polynomial, the areas are those of t, and the progress tells how many lines there are
+abbrev pub progressIn : Progress → List ℕ → Table → W.Progress State
+progressIn p us t = record {
   at = p .at;
   records = p .records;
-  state = record {
-    started = p .started;
-    variables = p .head .variables;
-    work = take (p .work) us;
-    lines = linesBy (p .head) is ts ws cs;
-  };
+  state = record { started = p .started; variables = p .variables; work = take (p .work) us; lines = linesOf (withLines (p .lines) t) };
 }
 
 -- what a record leaves: how far the filing has come, and what stops it
-abbrev pub leftBy : Step → List ℕ → List ℕ → List ℕ → List ℤ → List ℕ → W.Walked (W.Progress State)
-leftBy r us is ts ws cs = record { reached = progressOf (r .progress) us is ts ws cs; stop = W.stopOf (r .turn) }
+abbrev pub leftIn : Recorded → List ℕ → Table → Reached (W.Progress State)
+leftIn r us t = record { reached = progressIn (r .progress) us t; stop = stopOf (r .objection) }
 
--- the progress after a record of so many bytes: the work polynomial has so many terms
-abbrev pub passed : Progress → ℕ → Head → ℕ → Progress
-passed p size head work = record { at = p .at + size; records = p .records + 1; started = true; head = head; work = work }
+-- the progress after an accepted record of so many bytes: the variables, the lines, and the terms of the work polynomial
+abbrev pub passed : Progress → ℕ → ℕ → ℕ → ℕ → Progress
+passed p size variables lines work =
+    record { at = p .at + size; records = p .records + 1; started = true; variables = variables; lines = lines; work = work }
 
--- what holds before each record; before V nothing is held
-pub record Ready (p : Progress) (us is ts : List ℕ) (ws : List ℤ) (cs : List ℕ) : Type 0 where
-  pub kept : Kept 128 (p .head) is ts ws cs
-  pub well : T (wellFormed (indexedOf (p .head) is ts ws cs))
-  pub polynomial : T (isPolynomial (p .head .variables) (take (p .work) us))
-  pub fresh : T (not (p .started)) → (indexedOf (p .head) is ts ws cs ≡ imageOf 128 0 []) × (take (p .work) us ≡ ZERO)
+-- the same record, unless something is found against it: then all is as it was
+abbrev pub unlessFound : Progress → ℕ → ℕ → ℕ → Objection → Recorded
+unlessFound p size lines work Nothing = record { progress = passed p size (p .variables) lines work; objection = Nothing }
+unlessFound p size lines work (Found reason) = record { progress = p; objection = Found reason }
+
+-- ---- what holds before each record
+pub record Ready (p : Progress) (us : List ℕ) (t : Table) : Type 0 where
+  pub fits : Fits 128 t
   pub area : length us ≡ 64
   pub room : p .work ≤ 64
   pub counted : p .records ≤ p .at
 
--- ---- a record that touches no line, in whatever areas the lines stand; the work polynomial stands in us before it and in vs after it
--- it does what a definition says
-abbrev pub Does : (W.Progress State → W.Outcome (W.Progress State)) → Progress → List ℕ → Step → List ℕ → Type 0
-Does on p us r vs = (is ts : List ℕ) (ws : List ℤ) (cs : List ℕ) → Ready p us is ts ws cs
-    → leftBy r vs is ts ws cs ≡ W.after (progressOf p us is ts ws cs) (on (progressOf p us is ts ws cs))
+abbrev pub Held : Progress → List ℕ → Table → Type 0
+Held p us t = Ready p us (withLines (p .lines) t)
 
--- and all is ready for the next
-abbrev pub StaysReady : Progress → List ℕ → Step → List ℕ → Type 0
-StaysReady p us r vs = (is ts : List ℕ) (ws : List ℤ) (cs : List ℕ) → Ready p us is ts ws cs → Ready (r .progress) vs is ts ws cs
+-- what adding a term, or a weighted polynomial, asks of the work polynomial and of the lines
+abbrev pub Usable : State → Type 0
+Usable x = Ordered (x .work) × T (weightsFit (x .lines))
 
--- ---- the same of a work area, an index and three areas that a function is lent: `At` for what it asks, `Before` and `After` for what it promises
-abbrev pub ReadyAt : Progress → RefT (List ℕ) → RefT (List ℕ) → RefT (List ℕ) → RefT (List ℤ) → RefT (List ℕ) → Type 0
-ReadyAt p us is ts ws cs = Ready p (now us) (now is) (now ts) (now ws) (now cs)
+-- ---- a record that code has read leaves what a definition says, and what holds before the next. The work polynomial and the table stand in us and t before
+-- it, in vs and u after it.
+abbrev pub Does : (W.Progress State → Outcome (W.Progress State)) → Progress → List ℕ → Table → Recorded → List ℕ → Table → Type 0
+Does on p us t r vs u = Held p us t → (leftIn r vs u ≡ after (progressIn p us t) (on (progressIn p us t))) × Held (r .progress) vs u
 
-abbrev pub ReadyAfter : {A B C D E : Type 0} → Progress → Both A (RefT (List ℕ)) → Both B (RefT (List ℕ)) → Both C (RefT (List ℕ)) → Both D (RefT (List ℤ))
-    → Both E (RefT (List ℕ)) → Type 0
-ReadyAfter p us is ts ws cs = ReadyAt p (us .exit) (is .exit) (ts .exit) (ws .exit) (cs .exit)
-
-abbrev pub progressBefore : {A B C D E : Type 0} → Progress → Both (RefT (List ℕ)) A → Both (RefT (List ℕ)) B → Both (RefT (List ℕ)) C → Both (RefT (List ℤ)) D
-    → Both (RefT (List ℕ)) E → W.Progress State
-progressBefore p us is ts ws cs = progressOf p (now (us .entry)) (now (is .entry)) (now (ts .entry)) (now (ws .entry)) (now (cs .entry))
-
-abbrev pub leftAfter : {A B C D E : Type 0} → Step → Both A (RefT (List ℕ)) → Both B (RefT (List ℕ)) → Both C (RefT (List ℕ)) → Both D (RefT (List ℤ))
-    → Both E (RefT (List ℕ)) → W.Walked (W.Progress State)
-leftAfter r us is ts ws cs = leftBy r (now (us .exit)) (now (is .exit)) (now (ts .exit)) (now (ws .exit)) (now (cs .exit))
-
--- three lent areas, before they hold anything
-abbrev pub lentBefore : {A B C : Type 0} → Both (RefT (List ℕ)) A → Both (RefT (List ℤ)) B → Both (RefT (List ℕ)) C → Memory
-lentBefore ts ws cs = lent (now (ts .entry)) (now (ws .entry)) (now (cs .entry))
+-- ---- what code reads of the body of W or C: by a definition the record is refused for what is found, or it adds a polynomial, which may stand in us, at a
+-- weight, and leaves so many terms of the work polynomial
+abbrev pub Brings : (W.Progress State → Outcome (W.Progress State)) → Progress → ℕ → ℕ → (List ℕ → List ℕ) → ℤ → Objection → Type 0
+Brings on p size left f w o = (us : List ℕ) (t : Table)
+    → (let q = progressIn p us t in on q ≡ objected o (folded q size (take left us) (within (add (f us) w (q .state .lines)))))

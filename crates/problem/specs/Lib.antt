@@ -3,4 +3,3 @@ pub mod Entries
 pub mod Held
 pub mod ProblemLaws
 pub mod RefusedLaws
-pub mod OneListing

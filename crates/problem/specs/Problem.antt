@@ -1,21 +1,23 @@
 -- Filing a problem: the records of document 01's filing, and what is refused.
 use mathlib.Core.Bool.{Bool, true, false, cond, not, _&&_}
 use mathlib.Core.List.{List, []}
-use Prim.Native.Nat.{ℕ, suc, _+_, _^_}
+use Prim.Native.Nat.{ℕ, _+_, _^_}
 use lib.Dec.{leb, ltb, eqb}
 use lib.IntN.{ℤ, pos}
 use lib.Signed.{leZ}
 use lib.ListN.{length, getD}
+use Rattle.refusal.specs.Outcome.{Outcome, accepted, refused, unless, mapped, Told, answered, refusedAt}
 use Rattle.polynomial.specs.Polynomial.{ZERO, clauseOf}
 use Rattle.configuration.specs.Configuration.{Line, some, add}
-use Rattle.configuration.specs.Memory.{Memory, imageOf, sized}
-use Rattle.configuration.specs.Replacement.{Step, taken, refused, within}
+use Rattle.configuration.specs.Made.{Made}
+use Rattle.configuration.specs.Limits.{within}
 use Rattle.refusal.specs.Refusal.{numberOf}
+use Rattle.record.specs.Letters.{letterV, letterM, letterW, letterC}
 use Rattle.record.specs.Record.{whole, numberAt, signedAt}
-use Rattle.walk.specs.Walk.{Outcome, accepted, turnedDown, unless, mapped, Progress, past, Reader, Stop, nothing, refusedFor, Walked, readAll}
+use Rattle.walk.specs.Walk.{Progress, past, Reader, readAll, verdict}
 use Rattle.walk.specs.Work.{termAdded}
-use Rattle.problem.specs.declared.Answer.{Answer}
-use Rattle.problem.specs.declared.Answer.the-variants.{Filed, Refused}
+use Rattle.problem.specs.declared.FilingAnswer.{FilingAnswer}
+use Rattle.problem.specs.declared.FilingAnswer.the-variants.{Filed, Refused}
 
 -- what the accepted records made: whether V was among them, the variables, the work polynomial, the lines
 pub record State : Type 0 where
@@ -35,10 +37,9 @@ having work lines x = record { started = true; variables = x .variables; work = 
 abbrev pub weightFits : ℤ → Bool
 weightFits w = leZ (pos 1) w && leZ w (pos 1000000000)
 
--- the lines that a weighted polynomial leaves, within the limits
-abbrev pub folded : Progress State → ℕ → List ℕ → Step → Outcome (Progress State)
-folded p size work (taken L) = accepted (past p size (having work L (p .state)))
-folded p size work (refused n) = turnedDown n
+-- a record of so many bytes, accepted with the lines that a change leaves; the work polynomial is then another
+abbrev pub folded : Progress State → ℕ → List ℕ → Outcome (List Line) → Outcome (Progress State)
+folded p size work o = mapped (λ L. past p size (having work L (p .state))) o
 
 -- V: the number of variables
 abbrev pub onVariables : List ℕ → Progress State → Outcome (Progress State)
@@ -81,50 +82,30 @@ onClause s p =
 unfoldable pub onRecord : List ℕ → Progress State → Outcome (Progress State)
 onRecord s p =
     let kind = getD s (p .at) 0 in
-    cond (eqb kind 86) (onVariables s p)
-    (cond (eqb kind 77) (onTerm s p)
-    (cond (eqb kind 87) (onWeight s p)
-    (cond (eqb kind 67) (onClause s p)
-    (turnedDown 4))))
+    cond (eqb kind letterV) (onVariables s p)
+    (cond (eqb kind letterM) (onTerm s p)
+    (cond (eqb kind letterW) (onWeight s p)
+    (cond (eqb kind letterC) (onClause s p)
+    (refused 4))))
 
 -- at the end of the bytes V must have come, and the work polynomial be empty
 abbrev pub filing : Reader State
 filing = record { onRecord = onRecord; complete = λ x. x .started && not (some (x .work)) }
 
--- ---- filing in lent memory: another length is refused and nothing is written; otherwise the areas hold what the accepted records made
-pub data Told : Type 0 where
-  filed : Told
-  refusedAt : ℕ → ℕ → Told
+-- ---- what a filing makes of its bytes
+abbrev pub filed : Told (Unit {0})
+filed = answered tt
 
--- the paper's words for an answer: the record that a refusal names, and its number
-abbrev pub toldOf : Answer → Told
-toldOf Filed = filed
-toldOf (Refused k reason) = refusedAt k (numberOf reason)
+unfoldable pub fileProblem : List ℕ → Made (Unit {0})
+fileProblem s =
+    let r = readAll filing s empty in
+    record {
+      variables = r .reached .state .variables;
+      lines = r .reached .state .lines;
+      told = verdict (r .reached .records) tt (r .stop);
+    }
 
--- "names the number of records accepted before it plus one"
-abbrev pub verdict : ℕ → Stop → Told
-verdict k nothing = filed
-verdict k (refusedFor n) = refusedAt (suc k) n
-
-pub record Left : Type 0 where
-  pub memory : Memory
-  pub told : Told
-
-abbrev pub leftOf : Memory → Answer → Left
-leftOf m a = record { memory = m; told = toldOf a }
-
-abbrev pub leaves : Walked (Progress State) → Left
-leaves r = record {
-  memory = imageOf 128 (r .reached .state .variables) (r .reached .state .lines);
-  told = verdict (r .reached .records) (r .stop);
-}
-
--- three lent areas, before they hold anything
-abbrev pub lent : List ℕ → List ℤ → List ℕ → Memory
-lent ts ws cs = record { variables = 0; lines = 0; terms = ts; weights = ws; counts = cs }
-
-unfoldable pub fileProblem : List ℕ → Memory → Left
-fileProblem s m = cond (sized 128 m) (leaves (readAll filing s empty)) (record {
-  memory = lent (m .terms) (m .weights) (m .counts);
-  told = refusedAt 0 1;
-})
+-- the paper's words for an answer
+abbrev pub toldOfFiling : FilingAnswer → Told (Unit {0})
+toldOfFiling Filed = filed
+toldOfFiling (Refused k reason) = refusedAt k (numberOf reason)

@@ -1,5 +1,5 @@
--- Laws of filing: the configuration is the folded sum of the entries; what is filed is well formed, with positive weights; two filings of one problem, as
--- functions and in any order, leave one memory.
+-- Laws of filing: the lines are the folded sum of the entries; they are a configuration, with positive weights; two filings of one problem, as functions and in
+-- any order, make the same.
 use mathlib.Core.Path.{_≡_, refl, sym, ap, ap₂, subst, _∙_}
 use mathlib.Core.Bool.{Bool, true, false, cond, not, _&&_, Bool·beq, true≢false}
 use mathlib.Core.List.{List, [], _∷_, _++_}
@@ -9,40 +9,40 @@ use lib.Signed.{leZ}
 use lib.Dec.{le→leb, T, leb, leb→le, ltb, ltb→lt, nltb→le, eqb}
 use lib.IntN.{ℤ, pos, negsuc, _+ℤ_, +ℤ-idl}
 use lib.ListN.{length, getD}
-use Rattle.run.specs.Boolean.{bool-ext, is-true, of-true, both, cond-ind}
+use Rattle.refusal.specs.Outcome.{Outcome, accepted, refused, unless, mapped, Told}
+use Rattle.run.specs.BooleanLaws.{bool-ext, is-true, of-true, both, cond-ind}
 use Rattle.polynomial.specs.Polynomial.{ZERO, eval, orderOf, sumOf, clauseOf}
 use Rattle.polynomial.specs.ClauseLaws.{clause-ordered, clause-below}
 use Rattle.configuration.specs.Weight.{isZero, isNegative, share}
-use Rattle.configuration.specs.Configuration.{lineFits, Line, line, some, same, total, weight, keep, fold, add, addAll, Every, isPolynomial, linesFit, weightsFit, anyNegative}
-use Rattle.configuration.specs.Sums.{solve, v, _⊞_}
-use Rattle.configuration.specs.FormLaws.{polynomial-below, polynomial-sorted, polynomial-is, none-polynomial, sum-sign}
+use Rattle.configuration.specs.Configuration.{lineFits, Line, line, some, same, total, weight, keep, fold, add, addAll, Every, isPolynomial, linesFit, weightsFit, anyNegative, isConfiguration}
+use Rattle.configuration.specs.SumLaws.{solve, v, _⊞_}
 use Rattle.configuration.specs.ConfigurationLaws.{fit-head, fit-tail, order-ind, same-is, same-self, same-none, weight-all, all-ordered, unique, all-fit}
-use Rattle.configuration.specs.Memory.{Memory, linesOf, sized, wellFormed}
-use Rattle.configuration.specs.MemoryLaws.{every-append, fits-short, there-and-back, image-wellFormed}
-use Rattle.configuration.specs.Replacement.{taken, within}
+use Rattle.configuration.specs.LineLaws.{polynomial-below, polynomial-sorted, polynomial-is, none-polynomial, sum-sign, every-append, every-map, configuration-parts, parts-configuration}
+use Rattle.configuration.specs.Made.{Made}
+use Rattle.configuration.specs.Limits.{within}
+use Rattle.record.specs.Letters.{letterV, letterM, letterW, letterC}
 use Rattle.record.specs.Record.{whole, numberAt, signedAt}
-use Rattle.walk.specs.Walk.{Outcome, accepted, turnedDown, mapped, Progress, begun, past, Walked, walk, readAll, gathered}
-use Rattle.walk.specs.WalkLaws.{unless-ind, Kept, walk-ind, walk-keeps}
+use Rattle.walk.specs.Walk.{Progress, begun, past, walk, readAll, gathered}
+use Rattle.walk.specs.WalkLaws.{unless-ind, IfAccepted, walk-ind, walk-keeps}
 use Rattle.walk.specs.WorkLaws.{term-ind, term-sum}
-use Rattle.problem.specs.Problem.{State, empty, having, weightFits, folded, onVariables, onTerm, onWeight, onClause, onRecord, filing, filed, Left, leaves, fileProblem}
+use Rattle.problem.specs.Problem.{State, empty, having, weightFits, folded, onVariables, onTerm, onWeight, onClause, onRecord, filing, filed, fileProblem}
 use Rattle.problem.specs.Entries.{entryOf, entries, agreesBelow, agrees}
-use Rattle.run.specs.Boolean as B
+use Rattle.run.specs.BooleanLaws as B
 use Rattle.polynomial.specs.PolynomialLaws as P
-use Rattle.configuration.specs.Replacement as S
 
 -- ---- one record: what an accepted one passed, and what it adds
-folded-ind : (R : Outcome (Progress State) → Type 0) (p : Progress State) (size : ℕ) (work : List ℕ) (L : List Line) → ((n : ℕ) → R (turnedDown n))
+folded-ind : (R : Outcome (Progress State) → Type 0) (p : Progress State) (size : ℕ) (work : List ℕ) (L : List Line) → ((n : ℕ) → R (refused n))
     → (length L ≤ 128 → T (weightsFit L) → R (accepted (past p size (having work L (p .state))))) → R (folded p size work (within L))
 unfolding within
 folded-ind R p size work L nay yea = go (leb (length L) 128) (weightsFit L) (λ a b. yea (leb→le (length L) 128 a) b)
   where
-    go : (a b : Bool) → (T a → T b → R (accepted (past p size (having work L (p .state))))) → R (folded p size work (S.unless a 10 (S.unless b 11 (taken L))))
+    go : (a b : Bool) → (T a → T b → R (accepted (past p size (having work L (p .state))))) → R (folded p size work (unless a 10 (unless b 11 (accepted L))))
     go true true k = k tt tt
     go true false k = nay 11
     go false b k = nay 10
 
 module _ (s : List ℕ) (p : Progress State) (R : List Line → Outcome (Progress State) → Type 0) where
-  pub record-ind : ((C : List Line) (n : ℕ) → R C (turnedDown n))
+  pub record-ind : ((C : List Line) (n : ℕ) → R C (refused n))
       → (T (not (p .state .started)) → T (whole 1 s (p .at + 1)) → numberAt 1 s (p .at + 1) ≤ 32
       → R [] (accepted (past p 2 (record { started = true; variables = numberAt 1 s (p .at + 1); work = ZERO; lines = [] }))))
       → ((t : ℕ) → T (p .state .started) → T (whole 4 s (p .at + 1)) → t < 2 ^ (p .state .variables) → T (leb (length (sumOf (t ∷ []) (p .state .work))) 64)
@@ -55,7 +55,7 @@ module _ (s : List ℕ) (p : Progress State) (R : List Line → Outcome (Progres
       → R (line (clauseOf a b) w ∷ []) (accepted (past p 17 (having (p .state .work) (add (clauseOf a b) w (p .state .lines)) (p .state)))))
       → R (entryOf s p) (onRecord s p)
   unfolding entryOf onRecord
-  record-ind nay onV onM onW onC = go (eqb (getD s (p .at) 0) 86) (eqb (getD s (p .at) 0) 77) (eqb (getD s (p .at) 0) 87) (eqb (getD s (p .at) 0) 67)
+  record-ind nay onV onM onW onC = go (eqb (getD s (p .at) 0) letterV) (eqb (getD s (p .at) 0) letterM) (eqb (getD s (p .at) 0) letterW) (eqb (getD s (p .at) 0) letterC)
     where
       n : ℕ
       n = p .state .variables
@@ -80,7 +80,7 @@ module _ (s : List ℕ) (p : Progress State) (R : List Line → Outcome (Progres
 
       go : (a b d e : Bool)
           → R (cond a [] (cond b [] (cond d (line f u ∷ []) (cond e (line (clauseOf x y) w ∷ []) []))))
-          (cond a (onVariables s p) (cond b (onTerm s p) (cond d (onWeight s p) (cond e (onClause s p) (turnedDown 4)))))
+          (cond a (onVariables s p) (cond b (onTerm s p) (cond d (onWeight s p) (cond e (onClause s p) (refused 4)))))
       go true b d e =
           unless-ind (R []) (not (p .state .started)) 4 (nay []) (λ h. unless-ind (R []) (whole 1 s (p .at + 1)) 3 (nay []) (λ i.
           unless-ind (R []) (leb (numberAt 1 s (p .at + 1)) 32) 5 (nay []) (λ j. onV h i (leb→le (numberAt 1 s (p .at + 1)) 32 j))))
@@ -101,19 +101,19 @@ module _ (s : List ℕ) (p : Progress State) (R : List Line → Outcome (Progres
 
 -- ---- the configuration is the folded sum of the entries
 -- before V there are no lines
-abbrev pub Fresh : State → Type 0
-Fresh x = T (not (x .started)) → x .lines ≡ []
+abbrev pub NoneYet : State → Type 0
+NoneYet x = T (not (x .started)) → x .lines ≡ []
 
 no-more : (b : Bool) → T b → T (not b) → ⊥
 no-more true h k = k
 no-more false h k = h
 
 -- an accepted record adds its entry, and V has come
-pub record-lines : (s : List ℕ) (p q : Progress State) → Fresh (p .state) → onRecord s p ≡ accepted q
+pub record-lines : (s : List ℕ) (p q : Progress State) → NoneYet (p .state) → onRecord s p ≡ accepted q
     → (q .state .lines ≡ addAll (entryOf s p) (p .state .lines)) × T (q .state .started)
 unfolding addAll
 record-lines s p q f e =
-    rw e at (record-ind s p (λ C r. Kept (λ q. (q .state .lines ≡ addAll C (p .state .lines)) × T (q .state .started)) r)
+    rw e at (record-ind s p (λ C r. IfAccepted (λ q. (q .state .lines ≡ addAll C (p .state .lines)) × T (q .state .started)) r)
     (λ C n. tt) (λ h i j. (sym (f h), tt)) (λ t h i j k. (refl, tt)) (λ w h i j k l. (refl, tt)) (λ a b w h i j k l m n o. (refl, tt)))
 
 all-append : (C D L : List Line) → addAll (C ++ D) L ≡ addAll D (addAll C L)
@@ -121,10 +121,10 @@ unfolding addAll
 all-append [] D L = refl
 all-append (line f w ∷ C) D L = all-append C D (add f w L)
 
-pub filing-lines : (k : ℕ) (s : List ℕ) (p : Progress State) → Fresh (p .state)
+pub filing-lines : (k : ℕ) (s : List ℕ) (p : Progress State) → NoneYet (p .state)
     → (walk filing k s p) .reached .state .lines ≡ addAll (gathered filing entryOf k s p) (p .state .lines)
 unfolding addAll
-filing-lines k s = walk-ind filing entryOf (λ p F C. Fresh (p .state) → F .reached .state .lines ≡ addAll C (p .state .lines)) s (λ p f. refl) (λ p n e f. refl)
+filing-lines k s = walk-ind filing entryOf (λ p F C. NoneYet (p .state) → F .reached .state .lines ≡ addAll C (p .state .lines)) s (λ p f. refl) (λ p n e f. refl)
     (λ p q F C e rest f.
     let d : (q .state .lines ≡ addAll (entryOf s p) (p .state .lines)) × T (q .state .started) = record-lines s p q f e in
     rest (λ h. absurd (no-more (q .state .started) (d .1) h)) ∙ ap (addAll C) (d .0) ∙ sym (all-append (entryOf s p) C (p .state .lines))) k
@@ -161,49 +161,47 @@ unfolding add
 add-sign [] w L h k = k
 add-sign (t ∷ f) w L h k = fold-sign (t ∷ f) w L h k
 
--- ---- what holds of every state
+-- ---- what holds of every state; before V nothing is held
 pub record Sound (x : State) : Type 0 where
-  pub few : x .variables ≤ 32
-  pub polynomial : T (isPolynomial (x .variables) (x .work))
-  pub fit : T (linesFit (x .variables) (x .lines))
-  pub room : length (x .lines) ≤ 128
-  pub weights : T (weightsFit (x .lines))
+  pub configuration : T (isConfiguration (x .variables) (x .lines))
   pub signs : anyNegative (x .lines) ≡ false
-  pub fresh : T (not (x .started)) → (x .variables ≡ 0) × ((x .work ≡ ZERO) × (x .lines ≡ []))
+  pub polynomial : T (isPolynomial (x .variables) (x .work))
+  pub fresh : T (not (x .started)) → (x .variables ≡ 0) × (x .work ≡ ZERO) × (x .lines ≡ [])
 
 pub sound-empty : Sound empty
 unfolding linesFit weightsFit anyNegative
-sound-empty = record { few = omega arith; polynomial = none-polynomial 0; fit = tt; room = omega arith; weights = tt; signs = refl; fresh = λ h. (refl, (refl, refl)) }
+sound-empty = record { configuration = tt; signs = refl; polynomial = none-polynomial 0; fresh = λ h. (refl, refl, refl) }
 
 -- a weighted polynomial is added, within the limits
 sound-added : (x : State) (work f : List ℕ) (w : ℤ) → Sound x → T (isPolynomial (x .variables) work) → T (isPolynomial (x .variables) f) → T (weightFits w)
     → length (add f w (x .lines)) ≤ 128 → T (weightsFit (add f w (x .lines))) → Sound (having work (add f w (x .lines)) x)
 unfolding addAll
-sound-added x work f w o g h i j k = record {
-  few = o .few;
-  polynomial = g;
-  fit = all-fit (x .variables) (line f w ∷ []) (x .lines) (h, tt) (o .fit);
-  room = j;
-  weights = k;
-  signs = add-sign f w (x .lines) (filing-sign w i) (o .signs);
-  fresh = λ n. absurd n;
-}
+sound-added x work f w o g h i j k =
+    let c = configuration-parts (x .variables) (x .lines) (o .configuration) in record {
+      configuration = parts-configuration (x .variables) (add f w (x .lines))
+          (record { variables = c .variables; room = j; fit = all-fit (x .variables) (line f w ∷ []) (x .lines) (h, tt) (c .fit); weights = k });
+      signs = add-sign f w (x .lines) (filing-sign w i) (o .signs);
+      polynomial = g;
+      fresh = λ n. absurd n;
+    }
 
 pub clause-polynomial : (n a b : ℕ) → a < 2 ^ n → b < 2 ^ n → T (leb (length (clauseOf a b)) 64) → T (isPolynomial n (clauseOf a b))
 clause-polynomial n a b h k l = polynomial-is n (clauseOf a b) l (clause-below n a b h k) (clause-ordered a b)
 
 pub sound-record : (s : List ℕ) (p q : Progress State) → onRecord s p ≡ accepted q → Sound (p .state) → Sound (q .state)
 unfolding linesFit weightsFit anyNegative
-sound-record s p q e o = rw e at (record-ind s p (λ C r. Kept (λ q. Sound (q .state)) r)
+sound-record s p q e o = rw e at (record-ind s p (λ C r. IfAccepted (λ q. Sound (q .state)) r)
     (λ C n. tt)
-    (λ h i j. record { few = j; polynomial = none-polynomial (numberAt 1 s (p .at + 1)); fit = tt; room = omega arith; weights = tt; signs = refl; fresh = λ n. absurd n })
+    (λ h i j. record {
+      configuration = parts-configuration (numberAt 1 s (p .at + 1)) [] (record { variables = j; room = omega arith; fit = tt; weights = tt });
+      signs = refl;
+      polynomial = none-polynomial (numberAt 1 s (p .at + 1));
+      fresh = λ n. absurd n;
+    })
     (λ t h i j k. record {
-      few = o .few;
-      polynomial = term-sum (p .state .variables) t (p .state .work) j k (o .polynomial);
-      fit = o .fit;
-      room = o .room;
-      weights = o .weights;
+      configuration = o .configuration;
       signs = o .signs;
+      polynomial = term-sum (p .state .variables) t (p .state .work) j k (o .polynomial);
       fresh = λ n. absurd n;
     })
     (λ w h i j k l. sound-added (p .state) ZERO (p .state .work) w o (none-polynomial (p .state .variables)) (o .polynomial) j k l)
@@ -213,26 +211,16 @@ pub sound-filing : (k : ℕ) (s : List ℕ) (p : Progress State) → Sound (p .s
 sound-filing k s p o = walk-keeps filing (λ q. Sound (q .state)) s (λ p q e h. sound-record s p q e h) k p o
 
 -- ---- what is filed
-pub filed-is : (s : List ℕ) (m : Memory) → T (sized 128 m) → fileProblem s m ≡ leaves (readAll filing s empty)
-unfolding fileProblem
-filed-is s m h = rw (is-true (sized 128 m) h)
-
 filed-sound : (s : List ℕ) → Sound ((readAll filing s empty) .reached .state)
 filed-sound s = sound-filing (length s) s (begun empty) sound-empty
 
-pub filed-wellFormed : (s : List ℕ) (m : Memory) → T (sized 128 m) → T (wellFormed (fileProblem s m .memory))
-filed-wellFormed s m h =
-    let x : State = readAll filing s empty .reached .state in
-    let o : Sound x = filed-sound s in
-    rw (filed-is s m h) (image-wellFormed (x .variables) (x .lines) (o .room) (o .few) (o .fit) (o .weights))
+pub filed-configuration : (s : List ℕ) → T (isConfiguration (fileProblem s .variables) (fileProblem s .lines))
+unfolding fileProblem
+filed-configuration s = filed-sound s .configuration
 
-pub filed-lines : (s : List ℕ) (m : Memory) → T (sized 128 m) → linesOf (fileProblem s m .memory) ≡ readAll filing s empty .reached .state .lines
-filed-lines s m h =
-    let x : State = readAll filing s empty .reached .state in
-    rw (filed-is s m h) (there-and-back 128 (x .variables) (x .lines) (fits-short (x .variables) (x .lines) (filed-sound s .fit)))
-
-pub filed-entries : (s : List ℕ) (m : Memory) → T (sized 128 m) → linesOf (fileProblem s m .memory) ≡ addAll (entries s) []
-filed-entries s m h = filed-lines s m h ∙ filing-lines (length s) s (begun empty) (λ z. refl)
+pub filed-entries : (s : List ℕ) → fileProblem s .lines ≡ addAll (entries s) []
+unfolding fileProblem
+filed-entries s = filing-lines (length s) s (begun empty) (λ z. refl)
 
 -- every weight is at least 1
 abbrev pub Positive : List Line → Type 0
@@ -252,10 +240,11 @@ all-positive n (line f w ∷ L) h k =
     let e : T (isPolynomial n f && not (isZero w)) = B.right (some f) (isPolynomial n f && not (isZero w)) (fit-head n (line f w) L h) in
     (above-zero w (d .0) (B.right (isPolynomial n f) (not (isZero w)) e), all-positive n L (fit-tail n (line f w) L h) (d .1))
 
-pub filed-positive : (s : List ℕ) (m : Memory) → T (sized 128 m) → Positive (linesOf (fileProblem s m .memory))
-filed-positive s m h =
-    let q : State = (readAll filing s empty) .reached .state in
-    rw (filed-lines s m h) (all-positive (q .variables) (q .lines) (filed-sound s .fit) (filed-sound s .signs))
+pub filed-positive : (s : List ℕ) → Positive (fileProblem s .lines)
+unfolding fileProblem
+filed-positive s =
+    let x : State = (readAll filing s empty) .reached .state in
+    all-positive (x .variables) (x .lines) (configuration-parts (x .variables) (x .lines) (filed-sound s .configuration) .fit) (filed-sound s .signs)
 
 -- ---- polynomials of n variables are one function just where they are the same
 beq-is : (a b : Bool) → T (Bool·beq a b) → a ≡ b
@@ -301,10 +290,6 @@ unfolding total
 total-tests t u [] e = refl
 total-tests t u (line f w ∷ C) e = ap₂ (λ (b : Bool) (z : ℤ). share b w +ℤ z) (e .0) (total-tests t u C (e .1))
 
-every-map : (Q S : List ℕ → Type 0) → ((f : List ℕ) → Q f → S f) → (C : List Line) → Every Q C → Every S C
-every-map Q S h [] e = tt
-every-map Q S h (line f w ∷ C) e = (h f (e .0), every-map Q S h C (e .1))
-
 weight-agrees : (n : ℕ) (p : List ℕ) (C : List Line) → T (isPolynomial n p) → Every (λ f. T (isPolynomial n f)) C → total (agrees n p) C ≡ weight C p
 weight-agrees n p C h c =
     total-tests (agrees n p) (same p) C (every-map (λ f. T (isPolynomial n f)) (λ f. agrees n p f ≡ same p f) (λ f q. agrees-same n p f h q) C c)
@@ -338,14 +323,14 @@ abbrev pub Fitting : ℕ → List Line → Type 0
 Fitting n C = Every (λ f. T (isPolynomial n f)) C
 
 entry-fit : (s : List ℕ) (p q : Progress State) → Sound (p .state) → onRecord s p ≡ accepted q → Fitting (q .state .variables) (entryOf s p)
-entry-fit s p q o e = rw e at (record-ind s p (λ C r. Kept (λ q. Fitting (q .state .variables) C) r)
+entry-fit s p q o e = rw e at (record-ind s p (λ C r. IfAccepted (λ q. Fitting (q .state .variables) C) r)
     (λ C n. tt) (λ h i j. tt) (λ t h i j k. tt) (λ w h i j k l. (o .polynomial, tt))
     (λ a b w h i j k l m n r. (clause-polynomial (p .state .variables) a b j k m, tt)))
 
 -- V comes once
 record-variables : (s : List ℕ) (p q : Progress State) → T (p .state .started) → onRecord s p ≡ accepted q
     → (q .state .variables ≡ p .state .variables) × T (q .state .started)
-record-variables s p q b e = rw e at (record-ind s p (λ C r. Kept (λ q. (q .state .variables ≡ p .state .variables) × T (q .state .started)) r)
+record-variables s p q b e = rw e at (record-ind s p (λ C r. IfAccepted (λ q. (q .state .variables ≡ p .state .variables) × T (q .state .started)) r)
     (λ C n. tt) (λ h i j. absurd (no-more (p .state .started) b h)) (λ t h i j k. (refl, tt)) (λ w h i j k l. (refl, tt)) (λ a b w h i j k l m n o. (refl, tt)))
 
 -- the variables stay from V on
@@ -357,7 +342,7 @@ fitting-walk s = walk-ind filing entryOf
     (λ p. (λ h. refl, λ o. tt)) (λ p n e. (λ h. refl, λ o. tt)) (λ p q F C e rest. (
       λ h. rest .0 (record-variables s p q h e .1) ∙ record-variables s p q h e .0,
       λ o. every-append (λ f. T (isPolynomial (F .reached .state .variables) f)) (entryOf s p) C
-          (subst (λ (n : ℕ). Fitting n (entryOf s p)) (sym (rest .0 (record-lines s p q (λ h. o .fresh h .1 .1) e .1))) (entry-fit s p q o e))
+          (subst (λ (n : ℕ). Fitting n (entryOf s p)) (sym (rest .0 (record-lines s p q (λ h. o .fresh h .2) e .1))) (entry-fit s p q o e))
           (rest .1 (sound-record s p q e o)),
     ))
 
@@ -365,33 +350,26 @@ pub entries-fit : (k : ℕ) (s : List ℕ) (p : Progress State) → Sound (p .st
     → Fitting ((walk filing k s p) .reached .state .variables) (gathered filing entryOf k s p)
 entries-fit k s p o = fitting-walk s k p .1 o
 
--- ---- one problem, one memory
-leaves-same : (f g : Walked (Progress State)) → f .reached .state .variables ≡ g .reached .state .variables → f .reached .state .lines ≡ g .reached .state .lines
-    → leaves f .told ≡ leaves g .told → leaves f ≡ leaves g
-leaves-same f g a b c = rw (a, b, c)
+pub filed-fitting : (s : List ℕ) → Fitting (fileProblem s .variables) (entries s)
+unfolding fileProblem
+filed-fitting s = entries-fit (length s) s (begun empty) sound-empty
 
-pub same-problem : (s t : List ℕ) (m l : Memory) → T (sized 128 m) → T (sized 128 l) → fileProblem s m .told ≡ filed → fileProblem t l .told ≡ filed
-    → fileProblem s m .memory .variables ≡ fileProblem t l .memory .variables
-    → ((f : List ℕ) → agrees (fileProblem s m .memory .variables) f ZERO ≡ false
-    → total (agrees (fileProblem s m .memory .variables) f) (entries s) ≡ total (agrees (fileProblem s m .memory .variables) f) (entries t))
-    → fileProblem s m ≡ fileProblem t l
-same-problem s t m l hm hl es et e h =
-    let C : List Line = entries s in
-    let D : List Line = entries t in
-    let F : Walked (Progress State) = readAll filing s empty in
-    let G : Walked (Progress State) = readAll filing t empty in
-    let n : ℕ = F .reached .state .variables in
-    let a : fileProblem s m ≡ leaves F = filed-is s m hm in
-    let b : fileProblem t l ≡ leaves G = filed-is t l hl in
-    let v : n ≡ G .reached .state .variables = sym (ap (λ (x : Left). x .memory .variables) a) ∙ e ∙ ap (λ (x : Left). x .memory .variables) b in
-    let k : (f : List ℕ) → agrees n f ZERO ≡ false → total (agrees n f) C ≡ total (agrees n f) D =
-    subst (λ (n : ℕ). (f : List ℕ) → agrees n f ZERO ≡ false → total (agrees n f) C ≡ total (agrees n f) D) (ap (λ (x : Left). x .memory .variables) a) h in
-    let c : Fitting n C = entries-fit (length s) s (begun empty) sound-empty in
-    let d : Fitting n D = subst (λ (n : ℕ). Fitting n D) (sym v) (entries-fit (length t) t (begun empty) sound-empty) in
-    let lines : F .reached .state .lines ≡ G .reached .state .lines =
-    filing-lines (length s) s (begun empty) (λ z. refl) ∙ same-sum n C D c d k ∙ sym (filing-lines (length t) t (begun empty) (λ z. refl)) in
-    let told : leaves F .told ≡ leaves G .told = sym (ap (λ (x : Left). x .told) a) ∙ es ∙ sym et ∙ ap (λ (x : Left). x .told) b in
-    a ∙ leaves-same F G v lines told ∙ sym b
+-- ---- one problem: if every polynomial function other than 0 has the same total weight among the entries of two accepted filings, they make the same
+pub same-problem : (s t : List ℕ) → fileProblem s .told ≡ filed → fileProblem t .told ≡ filed → fileProblem s .variables ≡ fileProblem t .variables
+    → ((f : List ℕ) → agrees (fileProblem s .variables) f ZERO ≡ false
+    → total (agrees (fileProblem s .variables) f) (entries s) ≡ total (agrees (fileProblem s .variables) f) (entries t))
+    → fileProblem s ≡ fileProblem t
+same-problem s t es et e h =
+    let n : ℕ = fileProblem s .variables in
+    let d : Fitting n (entries t) = subst (λ (n : ℕ). Fitting n (entries t)) (sym e) (filed-fitting t) in
+    let lines : fileProblem s .lines ≡ fileProblem t .lines =
+    filed-entries s ∙ same-sum n (entries s) (entries t) (filed-fitting s) d h ∙ sym (filed-entries t) in
+    made-same (fileProblem s) (fileProblem t) e lines (es ∙ sym et)
+  where
+    made-same : (a b : Made (Unit {0})) → a .variables ≡ b .variables → a .lines ≡ b .lines → a .told ≡ b .told → a ≡ b
+    made-same a b i j k =
+        ap₂ (λ (n : ℕ) (L : List Line). record { variables = n; lines = L; told = a .told }) i j
+        ∙ ap (λ (x : Told (Unit {0})). record { variables = b .variables; lines = b .lines; told = x }) k
 
 -- ---- in any order of entry
 pub data Permuted : List Line → List Line → Type 0 where

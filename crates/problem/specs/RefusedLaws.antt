@@ -1,29 +1,30 @@
--- A filing's records lie in the bytes and depend on no byte after them. A refused filing leaves what the accepted records before it make, and names the
--- record after them.
+-- A filing's records lie in the bytes and depend on no byte after them. A refused filing makes what the accepted records before it make, and names the record
+-- after them.
 use mathlib.Core.Path.{_≡_, refl, sym, ap, ap₂, _∙_}
 use mathlib.Core.Bool.{Bool, true, false, cond, not, _&&_}
 use mathlib.Core.List.{List, []}
 use Prim.Native.Nat.{ℕ, suc, _+_, _^_, _≤_, _<_}
 use native.Mathlib.Omega.{arith}
-use lib.Dec.{T, leb, leb→le, ltb, eqb}
+use lib.Dec.{leb, leb→le, ltb, eqb}
 use lib.ListN.{length, getD, take}
 use lib.Seq.{getD-take}
+use Rattle.refusal.specs.Outcome.{Outcome, accepted, refused, unless, mapped, refusedFor, Reached, refusedAt}
 use Rattle.polynomial.specs.Polynomial.{ZERO, clauseOf}
-use Rattle.configuration.specs.Configuration.{add}
-use Rattle.configuration.specs.Memory.{Memory, sized}
-use Rattle.configuration.specs.Replacement.{Step, taken, refused, within}
+use Rattle.configuration.specs.Configuration.{Line, add}
+use Rattle.configuration.specs.Limits.{within}
+use Rattle.record.specs.Letters.{letterV, letterM, letterW, letterC}
 use Rattle.record.specs.Record.{whole, numberAt, signed, signedAt}
 use Rattle.record.specs.RecordLaws.{number-take, whole-take}
-use Rattle.walk.specs.Walk.{Outcome, accepted, turnedDown, unless, mapped, Progress, begun, past, Stop, nothing, refusedFor, walk, readAll}
+use Rattle.walk.specs.Walk.{Progress, begun, past, readAll}
 use Rattle.walk.specs.Work.{termAdded}
-use Rattle.walk.specs.WalkLaws.{Ends, same-outcome, unless-ind, mapped-ind, Kept, Local, Refusal, refused-record, acceptedBytes, accepted-bytes}
-use Rattle.problem.specs.Problem.{State, empty, having, weightFits, folded, onVariables, onTerm, onWeight, onClause, onRecord, filing, refusedAt, verdict, Left, leaves, fileProblem}
-use Rattle.problem.specs.ProblemLaws.{record-ind, filed-is}
+use Rattle.walk.specs.WalkLaws.{told-refused, Ends, same-outcome, unless-ind, mapped-ind, IfAccepted, Local, Refusal, refused-record, acceptedBytes, accepted-bytes}
+use Rattle.problem.specs.Problem.{State, empty, having, weightFits, folded, onVariables, onTerm, onWeight, onClause, onRecord, filing, fileProblem}
+use Rattle.problem.specs.ProblemLaws.{record-ind}
 use Rattle.walk.specs.WorkLaws as W
 
 -- ---- an accepted record lies in the bytes
 record-inside : (s : List ℕ) (p q : Progress State) → onRecord s p ≡ accepted q → (p .at < q .at) × (q .at ≤ length s) × (q .records ≡ suc (p .records))
-record-inside s p q e = rw e at (record-ind s p (λ C r. Kept (λ q. (p .at < q .at) × (q .at ≤ length s) × (q .records ≡ suc (p .records))) r)
+record-inside s p q e = rw e at (record-ind s p (λ C r. IfAccepted (λ q. (p .at < q .at) × (q .at ≤ length s) × (q .records ≡ suc (p .records))) r)
     (λ C n. tt)
     (λ h i j. (omega arith, omega (arith, leb→le (p .at + 1 + 1) (length s) i), refl))
     (λ t h i j k. (omega arith, omega (arith, leb→le (p .at + 1 + 4) (length s) i), refl))
@@ -59,8 +60,8 @@ module _ (s : List ℕ) (p : Progress State) (K : ℕ) (l : K ≤ length s) wher
           (folded p 17 (p .state .work) (within (add (clauseOf x y) (signed z) (p .state .lines))))))))
 
 -- where a record of each kind ends, if it is accepted
-ends-folded : (p : Progress State) (size : ℕ) (work : List ℕ) (t : Step) → Ends (p .at + size) (folded p size work t)
-ends-folded p size work (taken L) = refl
+ends-folded : (p : Progress State) (size : ℕ) (work : List ℕ) (t : Outcome (List Line)) → Ends (p .at + size) (folded p size work t)
+ends-folded p size work (accepted L) = refl
 ends-folded p size work (refused n) = tt
 
 module _ (s : List ℕ) (p : Progress State) where
@@ -97,11 +98,11 @@ record-prefix : (s : List ℕ) (p q : Progress State) (K : ℕ) → K ≤ length
 unfolding onRecord
 record-prefix s p q K l h e =
     let d : p .at < K = omega (arith, record-inside s p q e .0) in
-    rw (getD-take K s (p .at) 0 d) (go (eqb (getD s (p .at) 0) 86) (eqb (getD s (p .at) 0) 77) (eqb (getD s (p .at) 0) 87) (eqb (getD s (p .at) 0) 67) e)
+    rw (getD-take K s (p .at) 0 d) (go (eqb (getD s (p .at) 0) letterV) (eqb (getD s (p .at) 0) letterM) (eqb (getD s (p .at) 0) letterW) (eqb (getD s (p .at) 0) letterC) e)
   where
     go : (a b c d : Bool)
-        → cond a (onVariables s p) (cond b (onTerm s p) (cond c (onWeight s p) (cond d (onClause s p) (turnedDown 4)))) ≡ accepted q
-        → cond a (onVariables (take K s) p) (cond b (onTerm (take K s) p) (cond c (onWeight (take K s) p) (cond d (onClause (take K s) p) (turnedDown 4)))) ≡ accepted q
+        → cond a (onVariables s p) (cond b (onTerm s p) (cond c (onWeight s p) (cond d (onClause s p) (refused 4)))) ≡ accepted q
+        → cond a (onVariables (take K s) p) (cond b (onTerm (take K s) p) (cond c (onWeight (take K s) p) (cond d (onClause (take K s) p) (refused 4)))) ≡ accepted q
     go true b c d f = same-outcome (p .at + 2) K (onVariables s p) (onVariables (take K s) p) q (ends-variables s p) (variables-take s p K l) h f
     go false true c d f = same-outcome (p .at + 5) K (onTerm s p) (onTerm (take K s) p) q (ends-term s p) (term-take s p K l) h f
     go false false true d f = same-outcome (p .at + 9) K (onWeight s p) (onWeight (take K s) p) q (ends-weight s p) (weight-take s p K l) h f
@@ -111,28 +112,25 @@ record-prefix s p q K l h e =
 pub filing-local : Local filing
 filing-local = record { inside = record-inside; prefix = record-prefix }
 
--- ---- a refused filing: the refusal names the record after the accepted ones
-told-refused : (r : ℕ) (t : Stop) (K n : ℕ) → verdict r t ≡ refusedAt K n → (K ≡ suc r) × (t ≡ refusedFor n)
-told-refused r nothing K n e = let z : _≡_ {A = ℕ} 0 1 = cc in let x : ⊥ = omega arith in absurd x
-told-refused r (refusedFor m) K n e = (cc, cc)
+module _ (s : List ℕ) (K n : ℕ) (e : fileProblem s .told ≡ refusedAt K n) where
+  abbrev reading : Reached (Progress State)
+  reading = readAll filing s empty
 
-pub refused-number : (k : ℕ) (s : List ℕ) (p : Progress State) (K n : ℕ) → leaves (walk filing k s p) .told ≡ refusedAt K n
-    → K ≡ suc ((walk filing k s p) .reached .records)
-refused-number k s p K n e = told-refused ((walk filing k s p) .reached .records) ((walk filing k s p) .stop) K n e .0
+  stopped : (K ≡ suc (reading .reached .records)) × (reading .stop ≡ refusedFor n)
+  unfolding fileProblem
+  stopped = told-refused (reading .reached .records) tt (reading .stop) K n e
 
--- it leaves what the bytes of the accepted records alone leave
-pub refused-prefix : (s : List ℕ) (m : Memory) (K n : ℕ) → T (sized 128 m) → fileProblem s m .told ≡ refusedAt K n
-    → (K ≡ suc ((readAll filing s empty) .reached .records)) × (fileProblem s m .memory ≡ fileProblem (acceptedBytes filing s empty) m .memory)
-refused-prefix s m K n h e =
-    let b : List ℕ = acceptedBytes filing s empty in (
-      refused-number (length s) s (begun empty) K n (sym (ap (λ (x : Left). x .told) (filed-is s m h)) ∙ e),
-      ap (λ (x : Left). x .memory) (filed-is s m h) ∙ sym (ap (λ (x : Left). x .memory) (filed-is b m h ∙ ap leaves (accepted-bytes filing filing-local s empty))),
-    )
+  pub refused-number : K ≡ suc (reading .reached .records)
+  refused-number = stopped .0
 
--- document 01's number is of the first record that is not accepted
-pub refused-first : (s : List ℕ) (m : Memory) (K n : ℕ) → T (sized 128 m) → fileProblem s m .told ≡ refusedAt K n
-    → Refusal filing s ((readAll filing s empty) .reached) n
-refused-first s m K n h e =
-    let F : _ = readAll filing s empty in
-    refused-record filing filing-local (length s) s (begun empty) n (omega arith)
-    (told-refused (F .reached .records) (F .stop) K n (sym (ap (λ (x : Left). x .told) (filed-is s m h)) ∙ e) .1)
+  -- document 01's number is of the first record that is not accepted
+  pub refused-first : Refusal filing s (reading .reached) n
+  refused-first = refused-record filing filing-local (length s) s (begun empty) n (omega arith) (stopped .1)
+
+  -- it makes what the bytes of the accepted records alone make
+  pub refused-prefix : (let a = fileProblem (acceptedBytes filing s empty) in (fileProblem s .variables ≡ a .variables) × (fileProblem s .lines ≡ a .lines))
+  unfolding fileProblem
+  refused-prefix =
+      let r : readAll filing (acceptedBytes filing s empty) empty .reached ≡ reading .reached =
+      ap (λ (w : Reached (Progress State)). w .reached) (accepted-bytes filing filing-local s empty) in
+      (ap (λ (p : Progress State). p .state .variables) (sym r), ap (λ (p : Progress State). p .state .lines) (sym r))

@@ -1,73 +1,71 @@
 // Filing a problem.
 mod entry;
+mod read;
 
-use configuration::Head;
-use configuration::blank::blank;
-use configuration::index::in_turn;
-use configuration::index::settle;
 use entry::on_clause;
 use entry::on_term;
 use entry::on_variables;
 use entry::on_weight;
 use entry::refused;
 use polynomial::Polynomial;
+use refusal::Objection;
 use refusal::Reason;
-use walk::Turn;
 ghost use mathlib.Core.Path.{_≡_};
 ghost use mathlib.Core.Bool.{cond, _&&_};
-ghost use mathlib.Core.List.{[]};
 ghost use Prim.Native.Nat.{_<_};
 ghost use lib.Dec.{eqb};
 ghost use lib.ListN.{length};
+ghost use Rattle.refusal.specs.Outcome.{nothing, refusedFor};
 ghost use Rattle.polynomial.specs.Polynomial.{ZERO};
-ghost use Rattle.configuration.specs.Memory.{imageOf};
-ghost use Rattle.configuration.specs.Table.{tableAt, tableAfter, memoryAfter, tableMemory, TableKept};
-ghost use Rattle.walk.specs.Walk.{nothing, refusedFor, after, readAll};
-ghost use Rattle.problem.specs.Problem.{empty, onRecord, filing, toldOf, verdict, leftOf, leaves, fileProblem};
-ghost use Rattle.problem.specs.Held.{ReadyAt, ReadyAfter, progressBefore, leftAfter, lentBefore};
+ghost use Rattle.table.specs.Rows.{tableAt, tableBefore, tableAfter, Fits, madeIn};
+ghost use Rattle.walk.specs.Walk.{verdict};
+ghost use Rattle.problem.specs.Problem.{onRecord, fileProblem, toldOfFiling};
+ghost use Rattle.problem.specs.Held.{progressIn, Held, Usable, Does};
 
-// What a filing answers. A refusal names a record, 0 where the lent areas are refused, and its reason.
-pub enum Answer {
+// What a filing answers. A refusal names a record, and its reason.
+pub enum FilingAnswer {
     Filed,
     Refused(u64, Reason),
 }
 
-// What a filing leaves: the head, and the answer.
-pub struct Report {
-    pub head: Head,
-    pub answer: Answer,
+// What a filing makes: the number of variables, how many lines, and the answer. The lines stand in a table.
+pub struct Filing {
+    pub variables: u32,
+    pub lines: usize,
+    pub answer: FilingAnswer,
 }
 
-// How far a filing has come: where the next record begins, how many are accepted, whether V was among them, the head, and how
-// many terms the work polynomial has. Its terms stand at the front of an area of 64.
+// How far a filing has come: where the next record begins, how many are accepted, whether V was among them, the number of
+// variables, how many lines the table has, and how many terms the work polynomial. These stand at the front of an area of 64.
 pub struct Progress {
     pub at: usize,
     pub records: u64,
     pub started: bool,
-    pub head: Head,
+    pub variables: u32,
+    pub lines: usize,
     pub work: usize,
 }
 
-// The progress that one record leaves, and the answer for it. A refused record leaves all as it was.
-pub struct Step {
+// The progress that one record leaves, and what is found against the record. A refused one leaves all as it was.
+pub struct Recorded {
     pub progress: Progress,
-    pub turn: Turn,
+    pub objection: Objection,
 }
 
-// One record: its kind, then its place and its body.
+// One record: its kind, then its place and its body. It is for `file_problem`.
 fn on_record(
     bytes: &[u8],
     p: Progress,
     work: &mut [u32],
-    index: &mut [u64],
+    order: &mut [u64],
     terms: &mut [u32],
     weights: &mut [i64],
     counts: &mut [u32],
-) -> Step
-    requires { ⌜ (p .at < length (now bytes)) × ReadyAt p work index terms weights counts ⌝ }
-    ensures step { λ r. let q = progressBefore p work index terms weights counts in
-        ⌜ leftAfter r work index terms weights counts ≡ after q (onRecord (now (bytes .entry)) q) ⌝ }
-    ensures ready { λ r. ⌜ ReadyAfter (r .progress) work index terms weights counts ⌝ }
+) -> Recorded
+    requires { let t = tableAt (p .lines) order terms weights counts in
+        ⌜ (p .at < length (now bytes)) × Held p (now work) t × Usable (progressIn p (now work) t .state) ⌝ }
+    ensures { λ r. let t = tableBefore (p .lines) order terms weights counts in let u = tableAfter (r .progress .lines) order terms weights counts in
+        ⌜ Does (onRecord (now (bytes .entry))) p (now (work .entry)) t r (now (work .exit)) u ⌝ }
 {
     let at = p.at;
     let kind = bytes[at];
@@ -78,41 +76,41 @@ fn on_record(
         return on_term(bytes, p, work);
     }
     if kind == b'W' {
-        return on_weight(bytes, p, work, index, terms, weights, counts);
+        return on_weight(bytes, p, work, order, terms, weights, counts);
     }
     if kind == b'C' {
-        return on_clause(bytes, p, work, index, terms, weights, counts);
+        return on_clause(bytes, p, order, terms, weights, counts);
     }
     refused(p, Reason::Misplaced)
 }
 
-// The end of the bytes: V must have come, and the work polynomial be 0.
-fn finish(p: Progress) -> Answer
+// The end of the bytes: V must have come, and the work polynomial be 0. It is for `file_problem`.
+fn finish(p: Progress) -> FilingAnswer
     requires { ⌜ p .records < 18446744073709551615 ⌝ }
-    ensures { λ r. ⌜ toldOf r ≡ verdict (p .records) (cond (p .started && eqb (p .work) (length ZERO)) nothing (refusedFor 15)) ⌝ }
+    ensures { λ r. ⌜ toldOfFiling r ≡ verdict (p .records) tt (cond (p .started && eqb (p .work) (length ZERO)) nothing (refusedFor 15)) ⌝ }
 {
     if !p.started {
-        return Answer::Refused(p.records + 1, Reason::Unfinished);
+        return FilingAnswer::Refused(p.records + 1, Reason::Unfinished);
     }
     if p.work != Polynomial::ZERO.count {
-        return Answer::Refused(p.records + 1, Reason::Unfinished);
+        return FilingAnswer::Refused(p.records + 1, Reason::Unfinished);
     }
-    Answer::Filed
+    FilingAnswer::Filed
 }
 
-// Reads the records one after the other into cleared areas, up to the first that is refused.
-fn read_records(
+// Files the problem that the bytes are: reads the records one after the other, up to the first that is refused, and folds what
+// they bring into a table that holds no line. It is for the crates `checker` and `report`, which make the table.
+pub fn file_problem(
     bytes: &[u8],
-    head: Head,
-    index: &mut [u64],
+    order: &mut [u64],
     terms: &mut [u32],
     weights: &mut [i64],
     counts: &mut [u32],
-) -> Report
-    requires { let t = tableAt head index terms weights counts in ⌜ TableKept 128 t × (tableMemory t ≡ imageOf 128 0 []) ⌝ }
-    ensures left { λ r. ⌜ leftOf (tableMemory (tableAfter (r .head) index terms weights counts)) (r .answer)
-        ≡ leaves (readAll filing (now (bytes .entry)) empty) ⌝ }
-    ensures kept { λ r. ⌜ TableKept 128 (tableAfter (r .head) index terms weights counts) ⌝ }
+) -> Filing
+    requires { ⌜ Fits 128 (tableAt 0 order terms weights counts) ⌝ }
+    ensures made { λ r. let t = tableAfter (r .lines) order terms weights counts in
+        ⌜ madeIn (r .variables) t (toldOfFiling (r .answer)) ≡ fileProblem (now (bytes .entry)) ⌝ }
+    ensures fits { λ r. ⌜ Fits 128 (tableAfter (r .lines) order terms weights counts) ⌝ }
 {
     let zero = Polynomial::ZERO;
     let mut work = zero.terms;
@@ -120,61 +118,27 @@ fn read_records(
         at: 0,
         records: 0,
         started: false,
-        head,
+        variables: 0,
+        lines: 0,
         work: zero.count,
     };
     while p.at < bytes.len() {
-        let step = on_record(bytes, p, &mut work, index, terms, weights, counts);
-        let progress = step.progress;
+        let recorded = on_record(bytes, p, &mut work, order, terms, weights, counts);
+        let progress = recorded.progress;
         p = progress;
-        let turn = step.turn;
-        if let Turn::Refused(reason) = turn {
-            let head = p.head;
-            return Report {
-                head,
-                answer: Answer::Refused(p.records + 1, reason),
+        let objection = recorded.objection;
+        if let Objection::Found(reason) = objection {
+            return Filing {
+                variables: p.variables,
+                lines: p.lines,
+                answer: FilingAnswer::Refused(p.records + 1, reason),
             };
         }
     }
-    let head = p.head;
     let answer = finish(p);
-    Report { head, answer }
-}
-
-// A filing that is refused because of the lent areas: nothing is written.
-fn turned_away() -> Report
-    ensures { λ r. ⌜ r ≡ record { head = record { variables = 0; lines = 0 }; answer = Answer.Refused 0 Reason.WrongLength } ⌝ }
-{
-    Report {
-        head: Head {
-            variables: 0,
-            lines: 0,
-        },
-        answer: Answer::Refused(0, Reason::WrongLength),
+    Filing {
+        variables: p.variables,
+        lines: p.lines,
+        answer,
     }
-}
-
-// Files the problem that the bytes are, in lent areas of any lengths and contents.
-pub fn file_problem(
-    bytes: &[u8],
-    terms: &mut [u32],
-    weights: &mut [i64],
-    counts: &mut [u32],
-) -> Report
-    ensures { λ r. ⌜ leftOf (memoryAfter (r .head) terms weights counts) (r .answer) ≡ fileProblem (now (bytes .entry)) (lentBefore terms weights counts) ⌝ }
-{
-    if terms.len() != 8192 {
-        return turned_away();
-    }
-    if weights.len() != 128 {
-        return turned_away();
-    }
-    if counts.len() != 128 {
-        return turned_away();
-    }
-    let head = blank(terms, weights, counts);
-    let mut index = in_turn(terms);
-    let report = read_records(bytes, head, &mut index, terms, weights, counts);
-    settle(index, terms, weights, counts);
-    report
 }

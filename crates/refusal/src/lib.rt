@@ -39,6 +39,12 @@ pub enum Reason {
     NoSuchLine,
 }
 
+// What is found against something, if anything.
+pub enum Objection {
+    Nothing,
+    Found(Reason),
+}
+
 // Document 01's number of a reason.
 pub fn number(reason: Reason) -> u32
     ensures { λ r. ⌜ r ≡ numberOf reason ⌝ }

@@ -1,37 +1,31 @@
--- A whole report at the front of an area, from the texts that were written one behind the other.
-use mathlib.Core.Path.{_≡_, refl, ap, ap₂, _∙_}
+-- A whole text at the front of an area, from the texts that were written one behind the other.
+use mathlib.Core.Path.{_≡_, ap, ap₂, _∙_}
 use mathlib.Core.List.{List, _++_}
 use Prim.Native.Nat.{ℕ, _+_, _≤_, _<_}
 use native.Mathlib.Nat.{zero-add}
-use native.Mathlib.Omega.{arith}
-use lib.Dec.{leb, leb→le, nleb→lt}
 use lib.ListN.{length, take, drop}
-use Rattle.run.specs.Boolean.{cond-ind}
+use borrow.Author.Tests.{le-leb, lt-leb}
 use Rattle.listing.specs.Writing.{overwritten}
 use Rattle.listing.proofs.Writes.{Still, all-still, next-written, rest-written, as-text}
-use Rattle.report.specs.Report.{written, tooShort, Left, writeReport, textOf}
+use Rattle.report.specs.Report.{Given, given, lineOf}
 use Rattle.report.specs.declared.Text.{Text}
 use Rattle.report.proofs.Texts.{text-front}
 
--- an area that could be too short is left as it is
-pub short-area : (text area : List ℕ) → length area < 2179648 → _≡_ {A = Left} (record { area = area; told = tooShort }) (writeReport text area)
-unfolding writeReport
-short-area text area h = cond-ind (leb 2179648 (length area)) (λ (l : Left). _≡_ {A = Left} (record { area = area; told = tooShort }) l)
-    (λ t. let z : ⊥ = omega (arith, leb→le 2179648 (length area) t) in absurd z)
-    (λ t. refl)
+module _ (room : ℕ) (text area : List ℕ) where
+  -- an area that could be too short is left as it is
+  pub short-area : length area < room → _≡_ {A = Given} (record { area = area; size = 0 }) (given room text area)
+  short-area h = rw (lt-leb room (length area) h)
 
--- in a longer one stands the text
-pub whole-report : (text area b : List ℕ) (n : ℕ) → 2179648 ≤ length area → (n ≡ 0 + length text) × (b ≡ overwritten area 0 text)
-    → _≡_ {A = Left} (record { area = b; told = written n }) (writeReport text area)
-unfolding writeReport
-whole-report text area b n h e = cond-ind (leb 2179648 (length area)) (λ (l : Left). _≡_ {A = Left} (record { area = b; told = written n }) l)
-    (λ t.
-    let k : 0 + length text ≡ length text = zero-add (length text) in
-    ap₂ (λ (z : List ℕ) (i : ℕ). record { area = z; told = written i }) (e .1 ∙ ap (λ (i : ℕ). text ++ drop i area) k) (e .0 ∙ k))
-    (λ t. let z : ⊥ = omega (arith, nleb→lt 2179648 (length area) t) in absurd z)
+  -- in a longer one stands the text
+  pub whole-text : (b : List ℕ) (n : ℕ) → room ≤ length area → (n ≡ 0 + length text) × (b ≡ overwritten area 0 text)
+      → _≡_ {A = Given} (record { area = b; size = n }) (given room text area)
+  whole-text b n h e =
+      let k : 0 + length text ≡ length text = zero-add (length text) in
+      rw (le-leb room (length area) h)
+      (ap₂ (λ (z : List ℕ) (i : ℕ). record { area = z; size = i }) (e .1 ∙ ap (λ (i : ℕ). text ++ drop i area) k) (e .0 ∙ k))
 
--- a text by value that was written is the text
-pub line-written : (a : List ℕ) (at : ℕ) (t : Text) (x b : List ℕ) (end : ℕ) → t ≡ textOf x
+-- a line by value that was written is its text
+pub line-written : (a : List ℕ) (at : ℕ) (t : Text) (x b : List ℕ) (end : ℕ) → t ≡ lineOf x
     → (end ≡ at + length (take (t .size) (t .bytes))) × (b ≡ overwritten a at (take (t .size) (t .bytes))) → (end ≡ at + length x) × (b ≡ overwritten a at x)
 line-written a at t x b end e h =
     as-text a at (take (t .size) (t .bytes)) x b end (ap (λ (l : Text). take (l .size) (l .bytes)) e ∙ text-front x) h

@@ -12,40 +12,26 @@ use lib.ListN.{length, take, drop, replicate, length-append, length-replicate, r
 use lib.Seq.{take-all, take-append-seam, drop-append-seam}
 use borrow.Author.Tests.{leb-true, leb-false, ltb-true, ltb-false}
 use Rattle.io.specs.Digits.{digits, glyph, Fewest}
+use Rattle.listing.specs.Words.{ascii}
 use Rattle.listing.specs.Listing.{decimal, weightText}
 use Rattle.listing.specs.ListingLaws.{decimal-short, decimal-digits, weight-short}
 use Rattle.listing.specs.Writing.{overwritten}
 use Rattle.listing.proofs.Names.{regroup}
-use Rattle.report.specs.Report.{refusalText, confirmedText, verdictText, codeText, textOf}
+use Rattle.report.specs.Report.{refusalText, confirmedText, verdictText, codeText, lineOf}
 use Rattle.refusal.specs.Refusal.{numberOf}
 use Rattle.refusal.specs.RefusalLaws.{number-most}
-use Rattle.derivation.specs.Derivation as D
-use Rattle.derivation.specs.declared.Answer as DA
-use Rattle.derivation.specs.declared.Answer.the-variants as DV
+use Rattle.derivation.specs.Derivation.{toldOfCheck}
+use Rattle.derivation.specs.declared.CheckAnswer.{CheckAnswer}
+use Rattle.derivation.specs.declared.CheckAnswer.the-variants.{Confirmed, Refused}
 
--- ---- the words
-abbrev pub word-refused : List ℕ
-word-refused = 114 ∷ 101 ∷ 102 ∷ 117 ∷ 115 ∷ 101 ∷ 100 ∷ 32 ∷ []
-
-abbrev pub word-record : List ℕ
-word-record = 32 ∷ 97 ∷ 116 ∷ 32 ∷ 114 ∷ 101 ∷ 99 ∷ 111 ∷ 114 ∷ 100 ∷ 32 ∷ []
-
-abbrev pub word-confirmed : List ℕ
-word-confirmed = 99 ∷ 111 ∷ 110 ∷ 102 ∷ 105 ∷ 114 ∷ 109 ∷ 101 ∷ 100 ∷ 32 ∷ []
-
-abbrev pub word-degree : List ℕ
-word-degree = 32 ∷ 100 ∷ 101 ∷ 103 ∷ 114 ∷ 101 ∷ 101 ∷ 32 ∷ []
-
-abbrev pub word-problem : List ℕ
-word-problem = 112 ∷ 114 ∷ 111 ∷ 98 ∷ 108 ∷ 101 ∷ 109 ∷ 32 ∷ []
-
-pub refusal-parts : (n k : ℕ) → refusalText n k ≡ word-refused ++ (decimal n ++ (word-record ++ (decimal k ++ (10 ∷ []))))
+-- ---- the parts
+pub refusal-parts : (n k : ℕ) → refusalText n k ≡ ascii "refused " ++ (decimal n ++ (ascii " at record " ++ (decimal k ++ ascii "\n")))
 unfolding refusalText
-refusal-parts n k = regroup word-refused (decimal n) word-record (decimal k) (10 ∷ [])
+refusal-parts n k = regroup (ascii "refused ") (decimal n) (ascii " at record ") (decimal k) (ascii "\n")
 
-pub confirmed-parts : (w : ℤ) (d : ℕ) → confirmedText w d ≡ word-confirmed ++ (weightText w ++ (word-degree ++ (decimal d ++ (10 ∷ []))))
+pub confirmed-parts : (w : ℤ) (d : ℕ) → confirmedText w d ≡ ascii "confirmed " ++ (weightText w ++ (ascii " degree " ++ (decimal d ++ ascii "\n")))
 unfolding confirmedText
-confirmed-parts w d = regroup word-confirmed (weightText w) word-degree (decimal d) (10 ∷ [])
+confirmed-parts w d = regroup (ascii "confirmed ") (weightText w) (ascii " degree ") (decimal d) (ascii "\n")
 
 -- ---- the lengths: 64 bytes hold every line
 pub refusal-short : (n k : ℕ) → n ≤ 17 → length (refusalText n k) ≤ 42
@@ -61,7 +47,7 @@ digits-long b zero n = refl
 digits-long b (suc k) n = length-append (digits b k (n / b)) (glyph (n % b) ∷ []) ∙ ap (λ (l : ℕ). l + 1) (digits-long b k (n / b)) ∙ add-one k
 
 pub code-long : (n : ℕ) → length (codeText n) ≡ 17
-code-long n = length-append (digits 16 16 n) (10 ∷ []) ∙ ap (λ (l : ℕ). l + 1) (digits-long 16 16 n)
+code-long n = length-append (digits 16 16 n) (ascii "\n") ∙ ap (λ (l : ℕ). l + 1) (digits-long 16 16 n)
 
 -- ---- a number of 64 bits takes at most 16 digits, so that as many as it takes and no fewer than 16 are 16
 most-sixteen : (r n : ℕ) → n < 2 ^ 64 → Fewest 16 16 n r → r ≤ 16
@@ -89,7 +75,7 @@ zeros n k =
     ap (drop n) (sym (replicate-append-replicate {A = ℕ} n k 0)) ∙ ap (λ (x : ℕ). drop x (z ++ replicate k 0)) (sym l) ∙ drop-append-seam z (replicate k 0)
 
 pub by-value : (x bytes : List ℕ) (size : ℕ) → length x ≤ 64 → (size ≡ length x) × (bytes ≡ overwritten (replicate 64 0) 0 x)
-    → record { bytes = bytes; size = size } ≡ textOf x
+    → record { bytes = bytes; size = size } ≡ lineOf x
 by-value x bytes size h e =
     let n : ℕ = length x in
     let k : n + (64 - n) ≡ 64 = omega arith in
@@ -111,9 +97,9 @@ held-part n k l e h = go (leb n 64) refl
         let j : k ≡ 64 = omega arith in
         take-all k l (omega arith) ∙ sym (take-all n l (omega arith))
 
-pub text-front : (x : List ℕ) → (let t = textOf x in take (t .size) (t .bytes)) ≡ x
+pub text-front : (x : List ℕ) → (let t = lineOf x in take (t .size) (t .bytes)) ≡ x
 text-front x = take-append-seam x (replicate (64 - length x) 0)
 
-pub verdict-short : (a : DA.Answer) → length (verdictText (D.toldOf a)) ≤ 64
-verdict-short (DV.Confirmed w d) = omega (arith, confirmed-short w d)
-verdict-short (DV.Refused k reason) = omega (arith, refusal-short (numberOf reason) k (number-most reason))
+pub verdict-short : (a : CheckAnswer) → length (verdictText (toldOfCheck a)) ≤ 64
+verdict-short (Confirmed w d) = omega (arith, confirmed-short w d)
+verdict-short (Refused k reason) = omega (arith, refusal-short (numberOf reason) k (number-most reason))

@@ -1,38 +1,36 @@
-// What the programs print of their files' bytes: the lines besides the listings, and all of it as one text.
-use checker::Line;
-use checker::by_value::all;
-use checker::by_value::check_derivation;
-use checker::by_value::file_problem;
-use checker::whole::code_of;
-use checker::whole::put_listing;
+// What the programs print of their files' bytes: the lines besides the listings, and all of it as one text. The lines of a problem stand in
+// a table of this crate's own, from the filing to the last listing: nothing is lent.
+use derivation::CheckAnswer;
+use derivation::check_derivation;
+use listing::code::code_of;
+use listing::put_listing;
 use listing::text::put_bytes;
 use listing::text::put_decimal;
 use listing::text::put_weight;
+use problem::FilingAnswer;
+use problem::file_problem;
 use refusal::Reason;
 use refusal::number;
+use table::order::fresh_order;
 ghost use mathlib.Core.Path.{_≡_};
 ghost use Prim.Native.Nat.{_+_, _≤_, min};
-ghost use lib.IntN.{pos};
-ghost use lib.ListN.{length, take, replicate};
-ghost use Rattle.problem.specs.Problem.{toldOf as toldOfFiling};
-ghost use Rattle.derivation.specs.Derivation.{toldOf};
+ghost use lib.Dec.{T};
+ghost use lib.ListN.{length, take};
 ghost use Rattle.refusal.specs.Refusal.{numberOf};
+ghost use Rattle.configuration.specs.Configuration.{isConfiguration};
+ghost use Rattle.table.specs.Rows.{tableAt, tableBefore, linesOf, Fits};
+ghost use Rattle.problem.specs.Problem.{toldOfFiling};
+ghost use Rattle.derivation.specs.Derivation.{toldOfCheck};
 ghost use Rattle.listing.specs.Writing.{overwritten};
-ghost use Rattle.report.specs.Report.{refusalText, confirmedText, filingText, verdictText, codeText, codeOutput, checkOutput, codeOfFile, checkOfFiles, leftOf, writeReport, textOf};
+ghost use Rattle.report.specs.Report.{refusalText, confirmedText, filingText, verdictText, codeText, reportText, codeOutput, checkOutput, codeOfFile, checkInto, lineOf};
 
-// What writing a whole report answers: its length, or that the area could be too short.
-pub enum Report {
-    Written(usize),
-    TooShort,
-}
-
-// A text by value, from the front of the bytes; unused places are zero.
+// A line by value, from the front of the bytes; unused places are zero.
 pub struct Text {
     pub bytes: [u8; 64],
     pub size: usize,
 }
 
-// How many bytes of a text there are to print: every text that is made here has at most 64.
+// How many bytes of a line there are to print: every line that is made here has at most 64.
 pub fn held(text: Text) -> usize
     ensures count { λ r. ⌜ r ≡ min (text .size) 64 ⌝ }
     ensures places { λ _. ⌜ length (text .bytes) ≡ 64 ⌝ }
@@ -69,12 +67,12 @@ fn put_confirmation(out: &mut [u8], claim: i64, degree: u32) -> usize
 }
 
 // The line of a filing: nothing where it is accepted.
-fn filing_line(answer: problem::Answer) -> Text
-    ensures { λ r. ⌜ r ≡ textOf (filingText (toldOfFiling answer)) ⌝ }
+fn filing_line(answer: FilingAnswer) -> Text
+    ensures { λ r. ⌜ r ≡ lineOf (filingText (toldOfFiling answer)) ⌝ }
 {
     let mut bytes = [0u8; 64];
     let mut size: usize = 0;
-    if let problem::Answer::Refused(place, reason) = answer {
+    if let FilingAnswer::Refused(place, reason) = answer {
         let at = put_bytes(&mut bytes, 0, b"problem ");
         size = put_refusal(&mut bytes, at, place, reason);
     }
@@ -82,20 +80,20 @@ fn filing_line(answer: problem::Answer) -> Text
 }
 
 // The verdict on a derivation.
-pub fn verdict_line(answer: derivation::Answer) -> Text
-    ensures { λ r. ⌜ r ≡ textOf (verdictText (toldOf answer)) ⌝ }
+pub fn verdict_line(answer: CheckAnswer) -> Text
+    ensures { λ r. ⌜ r ≡ lineOf (verdictText (toldOfCheck answer)) ⌝ }
 {
     let mut bytes = [0u8; 64];
     let size = match answer {
-        derivation::Answer::Confirmed(claim, degree) => put_confirmation(&mut bytes, claim, degree),
-        derivation::Answer::Refused(place, reason) => put_refusal(&mut bytes, 0, place, reason),
+        CheckAnswer::Confirmed(claim, degree) => put_confirmation(&mut bytes, claim, degree),
+        CheckAnswer::Refused(place, reason) => put_refusal(&mut bytes, 0, place, reason),
     };
     Text { bytes, size }
 }
 
 // A code as sixteen lower-case digits.
 fn code_line(code: u64) -> Text
-    ensures { λ r. ⌜ r ≡ textOf (codeText code) ⌝ }
+    ensures { λ r. ⌜ r ≡ lineOf (codeText code) ⌝ }
 {
     let mut digits = [0u8; 16];
     let count = io::hex(code, 16, &mut digits);
@@ -105,28 +103,25 @@ fn code_line(code: u64) -> Text
     Text { bytes, size }
 }
 
-// The line table that is lent: it holds nothing yet.
-fn blank_table() -> [Line; 128]
-    ensures { λ r. ⌜ r ≡ replicate 128 (record { weight = pos 0; count = 0 }) ⌝ }
-{
-    all(Line {
-        weight: 0,
-        count: 0,
-    })
-}
-
 // What there is to tell of a problem's bytes: the line of its code, or of what was refused.
 fn problem_line(bytes: &[u8]) -> Text
-    ensures { λ r. ⌜ r ≡ textOf (codeOutput (now (bytes .entry))) ⌝ }
+    ensures { λ r. ⌜ r ≡ lineOf (codeOutput (now (bytes .entry))) ⌝ }
 {
+    let mut order = fresh_order();
     let mut terms = [0u32; 8192];
-    let filed = file_problem(bytes, &mut terms, blank_table());
-    let lines = filed.lines;
-    let report = filed.report;
-    let head = report.head;
-    let answer = report.answer;
+    let mut weights = [0i64; 128];
+    let mut counts = [0u32; 128];
+    let filing = file_problem(bytes, &mut order, &mut terms, &mut weights, &mut counts);
+    let answer = filing.answer;
     match answer {
-        problem::Answer::Filed => code_line(code_of(head, &terms, lines)),
+        FilingAnswer::Filed => code_line(code_of(
+            filing.variables,
+            filing.lines,
+            &order,
+            &terms,
+            &weights,
+            &counts,
+        )),
         _ => filing_line(answer),
     }
 }
@@ -142,37 +137,66 @@ fn put_line(out: &mut [u8], at: usize, line: Text) -> usize
     put_bytes(out, at, &bytes[..size])
 }
 
-// What there is to tell of a problem's and a derivation's bytes, as one text at the front of a lent area: the listing
-// before, the listing after, and the verdict; or what was refused of the problem.
-fn check_report(bytes: &[u8], steps: &[u8], out: &mut [u8]) -> Report
-    ensures { λ r. ⌜ leftOf (now (out .exit)) r ≡ writeReport (checkOutput (now (bytes .entry)) (now (steps .entry))) (now (out .entry)) ⌝ }
+// The listing before, the listing after and the verdict on a derivation's bytes, as one text at the front of the bytes: the lines
+// before stand in a table, and those after it are left there. It is for `check_report`, which has filed them.
+fn put_report(
+    steps: &[u8],
+    out: &mut [u8],
+    variables: u32,
+    lines: usize,
+    order: &mut [u64],
+    terms: &mut [u32],
+    weights: &mut [i64],
+    counts: &mut [u32],
+) -> usize
+    requires { let t = tableAt lines order terms weights counts in
+        ⌜ Fits 128 t × T (isConfiguration variables (linesOf t)) × (2179648 ≤ length (now out)) ⌝ }
+    ensures end { λ r. let L = linesOf (tableBefore lines order terms weights counts) in ⌜ r ≡ length (reportText (now (steps .entry)) variables L) ⌝ }
+    ensures text { λ _. let L = linesOf (tableBefore lines order terms weights counts) in
+        ⌜ now (out .exit) ≡ overwritten (now (out .entry)) 0 (reportText (now (steps .entry)) variables L) ⌝ }
 {
-    if out.len() < 2179648 {
-        return Report::TooShort;
-    }
+    let middle = put_listing(out, 0, variables, lines, order, terms, weights, counts);
+    let check = check_derivation(steps, variables, lines, order, terms, weights, counts);
+    let left = check.lines;
+    let verdict = check.answer;
+    let end = put_listing(out, middle, variables, left, order, terms, weights, counts);
+    put_line(out, end, verdict_line(verdict))
+}
+
+// What there is to tell of a problem's and a derivation's bytes, as one text at the front of the bytes: the listing before, the
+// listing after, and the verdict; or what was refused of the problem. It is for `check_files`, which has tested the room.
+fn check_report(bytes: &[u8], steps: &[u8], out: &mut [u8]) -> usize
+    requires { ⌜ 2179648 ≤ length (now out) ⌝ }
+    ensures end { λ r. ⌜ r ≡ length (checkOutput (now (bytes .entry)) (now (steps .entry))) ⌝ }
+    ensures text { λ _. ⌜ now (out .exit) ≡ overwritten (now (out .entry)) 0 (checkOutput (now (bytes .entry)) (now (steps .entry))) ⌝ }
+{
+    let mut order = fresh_order();
     let mut terms = [0u32; 8192];
-    let filed = file_problem(bytes, &mut terms, blank_table());
-    let lines = filed.lines;
-    let first = filed.report;
-    let before = first.head;
-    let filing = first.answer;
-    if let problem::Answer::Refused(_, _) = filing {
-        return Report::Written(put_line(out, 0, filing_line(filing)));
+    let mut weights = [0i64; 128];
+    let mut counts = [0u32; 128];
+    let filing = file_problem(bytes, &mut order, &mut terms, &mut weights, &mut counts);
+    let variables = filing.variables;
+    let lines = filing.lines;
+    let answer = filing.answer;
+    match answer {
+        FilingAnswer::Filed => put_report(
+            steps,
+            out,
+            variables,
+            lines,
+            &mut order,
+            &mut terms,
+            &mut weights,
+            &mut counts,
+        ),
+        _ => put_line(out, 0, filing_line(answer)),
     }
-    let middle = put_listing(out, 0, before, &terms, lines);
-    let checked = check_derivation(steps, before, &mut terms, lines);
-    let left = checked.lines;
-    let last = checked.report;
-    let after = last.head;
-    let answer = last.answer;
-    let end = put_listing(out, middle, after, &terms, left);
-    Report::Written(put_line(out, end, verdict_line(answer)))
 }
 
 // A text that is there, by value.
 fn said(text: &[u8]) -> Text
     requires { ⌜ length (now text) ≤ 64 ⌝ }
-    ensures { λ r. ⌜ r ≡ textOf (now (text .entry)) ⌝ }
+    ensures { λ r. ⌜ r ≡ lineOf (now (text .entry)) ⌝ }
 {
     let mut bytes = [0u8; 64];
     let size = put_bytes(&mut bytes, 0, text);
@@ -181,7 +205,7 @@ fn said(text: &[u8]) -> Text
 
 // What the program `problem_code` prints of its file.
 pub fn code_file(bytes: &[u8]) -> Text
-    ensures { λ r. ⌜ r ≡ textOf (codeOfFile (now (bytes .entry))) ⌝ }
+    ensures { λ r. ⌜ r ≡ lineOf (codeOfFile (now (bytes .entry))) ⌝ }
 {
     if 8192 < bytes.len() {
         return said(b"problem too long\n");
@@ -189,18 +213,19 @@ pub fn code_file(bytes: &[u8]) -> Text
     problem_line(bytes)
 }
 
-// What the program `check_derivation` prints of its files, at the front of a lent area.
-pub fn check_files(bytes: &[u8], steps: &[u8], out: &mut [u8]) -> Report
-    ensures { λ r. ⌜ leftOf (now (out .exit)) r ≡ writeReport (checkOfFiles (now (bytes .entry)) (now (steps .entry))) (now (out .entry)) ⌝ }
+// What the program `check_derivation` prints of its files, at the front of a lent area, and its length; 0 where the area is shorter
+// than 2,179,648 bytes, which hold every report.
+pub fn check_files(bytes: &[u8], steps: &[u8], out: &mut [u8]) -> usize
+    ensures { λ r. ⌜ record { area = now (out .exit); size = r } ≡ checkInto (now (bytes .entry)) (now (steps .entry)) (now (out .entry)) ⌝ }
 {
     if out.len() < 2179648 {
-        return Report::TooShort;
+        return 0;
     }
     if 8192 < bytes.len() {
-        return Report::Written(put_bytes(out, 0, b"problem too long\n"));
+        return put_bytes(out, 0, b"problem too long\n");
     }
     if 8192 < steps.len() {
-        return Report::Written(put_bytes(out, 0, b"steps too long\n"));
+        return put_bytes(out, 0, b"steps too long\n");
     }
     check_report(bytes, steps, out)
 }

@@ -1,38 +1,56 @@
--- Operands as they are lent; changes that are folded one by one into a table of four; and what a plan promises of it, and a replacement by it.
+-- Operands as they are lent; whether a result is short enough; changes that are folded one by one into a table of four; and what a plan promises of it, and a replacement by it.
 use mathlib.Core.Path.{_≡_, refl, sym, ap, _∙_}
 use mathlib.Core.Logic.{_⊎_, inl, inr}
-use mathlib.Core.Bool.{Bool, true, cond}
+use mathlib.Core.Bool.{Bool, true, false, cond}
 use mathlib.Core.List.{List, [], _∷_, _++_}
 use Prim.Native.Nat.{ℕ, _≤_, _<_, _^_}
 use native.Mathlib.Omega.{arith}
-use lib.Dec.{T, le→leb}
+use lib.Dec.{T, leb, le→leb}
 use lib.IntN.{ℤ, _+ℤ_}
-use lib.ListN.{length, getD}
+use lib.ListN.{length, take, getD, length-take}
 use lib.Signed.{mag}
-use Rattle.polynomial.specs.Polynomial.{ZERO, ONE, sumOf, productOf}
+use borrow.Author.Tests.{le-leb, lt-leb}
+use Rattle.refusal.specs.Outcome.{after}
+use Rattle.polynomial.specs.Polynomial.{ZERO, ONE, sumOf, productOf, Below}
+use Rattle.polynomial.specs.PolynomialLaws.{product-plus-one}
 use Rattle.polynomial.proofs.Keys.{below-each}
 use Rattle.configuration.specs.Weight.{inRange}
-use Rattle.configuration.specs.Configuration.{Line, line, weight, add, addAll, negated, Ordered, isPolynomial}
+use Rattle.configuration.specs.Configuration.{Line, line, weight, add, addAll, negated, InOrder, isPolynomial}
 use Rattle.configuration.specs.ConfigurationLaws.{all-ordered, netted}
-use Rattle.configuration.specs.FormLaws.{polynomial-is}
-use Rattle.configuration.specs.Replacement.{Small, within}
-use Rattle.configuration.specs.ReplacementLaws.{mag-add, netted-weight, netted-small}
-use Rattle.configuration.proofs.Replacements.{all-snoc, small-snoc, add-short, all-short}
+use Rattle.configuration.specs.LineLaws.{polynomial-is}
+use Rattle.configuration.specs.Limits.{within}
+use Rattle.replacement.specs.Passes.{Small}
+use Rattle.configuration.specs.WeightLaws.{mag-add}
+use Rattle.replacement.specs.PassesLaws.{netted-weight, netted-small}
+use Rattle.step.proofs.Added.{all-snoc, small-snoc, add-short, all-short}
 use Rattle.calculus.specs.Calculus.{conclusions, changes, allShort}
 use Rattle.calculus.specs.CalculusLaws.{none-changed}
 use Rattle.calculus.specs.declared.Rule.{Rule}
 use Rattle.calculus.specs.declared.Rule.the-variants.{Sum, Prod}
-use Rattle.calculus.specs.declared.Objection.{Objection}
-use Rattle.calculus.proofs.Plans.{small-changes}
 use Rattle.table.specs.Rows.{Table, linesOf, capacityOf, Fits, Holds}
 use Rattle.table.specs.RowsLaws.{of-capacity, to-capacity}
-use Rattle.table.specs.Replacing.{Replacement, replacedOf, verdictNumber, after, replaced}
-use Rattle.table.specs.declared.Verdict.{Verdict}
-use Rattle.step.specs.Stepping.{Operand, HasPlan, objectionNumber, steppedOf}
+use Rattle.step.specs.Stepping.{Operand, HasPlan}
+use Rattle.step.proofs.Amounts.{small-changes}
 
 -- ---- an operand is a polynomial of 32 variables
 pub operand-is : (f : List ℕ) → Operand f → ((i : ℕ) → getD f i 0 < 2 ^ 32) → T (isPolynomial 32 f)
 operand-is f o b = polynomial-is 32 f (le→leb (length f) 64 (o .0)) (below-each f (λ i h. b i)) (o .1)
+
+-- ---- whether an exact result l, of r terms, is short enough
+module _ (r : ℕ) (l : List ℕ) (e : r ≡ length l) where
+  pub long : 64 < r → leb (length l) 64 ≡ false
+  long h = lt-leb (length l) 64 (omega arith)
+
+  pub short : r ≤ 64 → leb (length l) 64 ≡ true
+  short h = le-leb (length l) 64 (omega arith)
+
+-- where they fit, the area has room for them
+pub room : (l area : List ℕ) (r : ℕ) → (r ≡ length l) × (r ≤ 64 → take r area ≡ l) → r ≤ 64 → r ≤ length area
+room l area r told h = omega (arith, told .0, ap length (told .1 h), length-take r area)
+
+-- f g + f, worked out from f g, is f (g + 1)
+pub plus-one : (f g p : List ℕ) → Below 32 f → Below 32 g → p ≡ productOf f g → sumOf p f ≡ productOf f (sumOf g ONE)
+plus-one f g p a b h = ap (λ (x : List ℕ). sumOf x f) h ∙ sym (product-plus-one 32 f g a b)
 
 -- ---- changes folded one by one
 -- a table of four has the changes C, none of them large
@@ -100,8 +118,5 @@ pub small-folded : (r : Rule) (f g : List ℕ) (w : ℤ) → T (inRange w) → S
 small-folded r f g w h = netted-small (changes r f g w) (few-changes r f g w) (small-changes r f g w h)
 
 -- changes that were folded among themselves first are the rule's
-pub changed-is : (C L M : List Line) (v : Verdict) (o : Objection) → Ordered L → replacedOf v M ≡ replaced (addAll C []) L → objectionNumber o ≡ verdictNumber v
-    → steppedOf o M ≡ after L (within (addAll C L))
-unfolding replaced
-changed-is C L M v o r e h =
-    ap (λ (n : ℕ). let a : Replacement = record { number = n; lines = M } in a) h ∙ e ∙ ap (λ (N : List Line). after L (within N)) (netted C L r)
+pub changed-is : (C L : List Line) → InOrder L → after L (within (addAll (addAll C []) L)) ≡ after L (within (addAll C L))
+changed-is C L r = ap (λ (N : List Line). after L (within N)) (netted C L r)

@@ -1,33 +1,34 @@
-// One step on the lines of a table: the tests of the mode, and the changes of a rule, all or nothing. Callers of `step` have made
-// the table, and tested the polynomials.
+// One step on the lines of a table: the tests of the mode, and the changes of a rule, all or nothing; and the tests of
+// the operands of a step that is taken directly.
 mod plan;
 
 use calculus::Mode;
-use calculus::Objection;
 use calculus::Rule;
+use configuration::form::is_below;
 use plan::plan_of;
 use polynomial::Ordering;
 use polynomial::Polynomial;
 use polynomial::order::compare;
+use polynomial::order::in_order;
+use refusal::Objection;
 use refusal::Reason;
-use table::Verdict;
+use replacement::replace;
 use table::lines::none_negative;
 use table::lines::weight_of;
-use table::replace::replace;
 ghost use mathlib.Core.Path.{_≡_};
 ghost use mathlib.Core.Bool.{true, cond};
+ghost use mathlib.Core.List.{List};
 ghost use lib.Dec.{T};
 ghost use lib.Signed.{leZ};
+ghost use Rattle.refusal.specs.Outcome.{Outcome, passing, after, stopOf, objected};
 ghost use Rattle.configuration.specs.Weight.{inRange};
-ghost use Rattle.configuration.specs.Configuration.{some, weight, weightsFit};
-ghost use Rattle.configuration.specs.Replacement.{Step};
-ghost use Rattle.calculus.specs.Calculus.{amountFits, premises, there, passing, modeTests, objected, changed, step as stepOf};
+ghost use Rattle.configuration.specs.Configuration.{Line, some, weight, weightsFit};
+ghost use Rattle.calculus.specs.Calculus.{amountFits, premises, there, modeTests, changed, step as stepOf, operandTests};
 ghost use Rattle.table.specs.Rows.{tableAt, tableBefore, tableAfter, linesOf, Fits};
-ghost use Rattle.table.specs.Replacing.{verdictNumber, after};
-ghost use Rattle.step.specs.Stepping.{Operand, objectionNumber, steppedOf};
+ghost use Rattle.step.specs.Stepping.{Operand};
 
 // How many lines a step leaves, and what was found against it: nothing, if it was taken.
-pub struct Stepped {
+pub struct Moved {
     pub lines: usize,
     pub objection: Objection,
 }
@@ -121,7 +122,7 @@ fn object(
 ) -> Objection
     requires { ⌜ Fits 128 (tableAt lines order terms weights counts) ⌝ }
     ensures { λ r. let L = linesOf (tableBefore lines order terms weights counts) in
-        ⌜ ((s : Step) → objected r s ≡ passing (modeTests rule mode (now (f .entry)) (now (g .entry)) amount L) s) ⌝ }
+        ⌜ ((o : Outcome (List Line)) → objected r o ≡ passing (modeTests rule mode (now (f .entry)) (now (g .entry)) amount L) o) ⌝ }
 {
     if let Mode::Plain = mode {
         if !none_negative(lines, order, weights) {
@@ -139,17 +140,6 @@ fn object(
     Objection::Nothing
 }
 
-// The objection that a replacement's verdict is.
-fn objection_of(verdict: Verdict) -> Objection
-    ensures { λ r. ⌜ objectionNumber r ≡ verdictNumber verdict ⌝ }
-{
-    match verdict {
-        Verdict::Done => Objection::Nothing,
-        Verdict::TooManyLines => Objection::Found(Reason::TooManyLines),
-        Verdict::WeightTooLarge => Objection::Found(Reason::WeightTooLarge),
-    }
-}
-
 // Makes the changes of a rule, if they fit. It is for `step`, which has made the mode's tests.
 fn change(
     lines: usize,
@@ -161,11 +151,11 @@ fn change(
     f: &[u32],
     g: &[u32],
     amount: i64,
-) -> Stepped
+) -> Moved
     requires { let t = tableAt lines order terms weights counts in
         ⌜ Fits 128 t × T (weightsFit (linesOf t)) × Operand (now f) × Operand (now g) × T (inRange amount) ⌝ }
     ensures lines { λ r. let L = linesOf (tableBefore lines order terms weights counts) in
-        ⌜ steppedOf (r .objection) (linesOf (tableAfter (r .lines) order terms weights counts))
+        ⌜ record { reached = linesOf (tableAfter (r .lines) order terms weights counts); stop = stopOf (r .objection) }
         ≡ after L (changed rule (now (f .entry)) (now (g .entry)) amount L) ⌝ }
     ensures fits { λ r. ⌜ Fits 128 (tableAfter (r .lines) order terms weights counts) ⌝ }
 {
@@ -184,7 +174,7 @@ fn change(
         &mut new_counts,
     );
     if !plan.fits {
-        return Stepped {
+        return Moved {
             lines,
             objection: Objection::Found(Reason::TooManyTerms),
         };
@@ -201,15 +191,41 @@ fn change(
         &new_weights,
         &new_counts,
     );
-    let verdict = done.verdict;
-    let objection = objection_of(verdict);
-    Stepped {
+    let objection = done.objection;
+    Moved {
         lines: done.lines,
         objection,
     }
 }
 
-// Takes a step on the lines of a table, or refuses it and changes nothing. It is for the crates that read derivations or lend memory.
+// The tests of the operands of a step that is taken directly: their lengths, their variables, their order. It is for the crate
+// `checker`.
+pub fn misfit(variables: u32, f: &[u32], g: &[u32]) -> Objection
+    ensures { λ r. ⌜ ((o : Outcome (List Line)) → objected r o ≡ passing (operandTests variables (now (f .entry)) (now (g .entry))) o) ⌝ }
+{
+    if 64 < f.len() {
+        return Objection::Found(Reason::TooManyTerms);
+    }
+    if 64 < g.len() {
+        return Objection::Found(Reason::TooManyTerms);
+    }
+    if !is_below(variables, f) {
+        return Objection::Found(Reason::UnknownVariable);
+    }
+    if !is_below(variables, g) {
+        return Objection::Found(Reason::UnknownVariable);
+    }
+    if !in_order(f) {
+        return Objection::Found(Reason::UnorderedTerms);
+    }
+    if !in_order(g) {
+        return Objection::Found(Reason::UnorderedTerms);
+    }
+    Objection::Nothing
+}
+
+// Takes a step on the lines of a table, or refuses it and changes nothing. It is for the crates `derivation` and `checker`, which
+// have made the table and tested the polynomials.
 pub fn step(
     lines: usize,
     order: &mut [u64],
@@ -221,11 +237,11 @@ pub fn step(
     f: &[u32],
     g: &[u32],
     amount: i64,
-) -> Stepped
+) -> Moved
     requires { let t = tableAt lines order terms weights counts in
         ⌜ Fits 128 t × T (weightsFit (linesOf t)) × Operand (now f) × Operand (now g) ⌝ }
     ensures lines { λ r. let L = linesOf (tableBefore lines order terms weights counts) in
-        ⌜ steppedOf (r .objection) (linesOf (tableAfter (r .lines) order terms weights counts))
+        ⌜ record { reached = linesOf (tableAfter (r .lines) order terms weights counts); stop = stopOf (r .objection) }
         ≡ after L (stepOf rule mode (now (f .entry)) (now (g .entry)) amount L) ⌝ }
     ensures fits { λ r. ⌜ Fits 128 (tableAfter (r .lines) order terms weights counts) ⌝ }
 {
@@ -242,7 +258,7 @@ pub fn step(
         amount,
     );
     if let Objection::Found(reason) = objection {
-        return Stepped {
+        return Moved {
             lines,
             objection: Objection::Found(reason),
         };

@@ -12,7 +12,7 @@ use Rattle.configuration.specs.Configuration.{Line, line, some, weight, keep, a
 use Rattle.configuration.specs.PlaceLaws.{Fresh, place-le, fold-held, fold-new, weight-held, weight-new}
 use Rattle.table.specs.Rows.{Table, rowOf, termsIn, linesOf, Fits}
 use Rattle.table.specs.RowsLaws.{length-lines, line-at}
-use Rattle.table.specs.HeldLaws.{held-line, fresh-line, held-weight}
+use Rattle.table.proofs.Held.{held-line, fresh-line, held-weight}
 use Rattle.table.proofs.Searches.{none}
 
 pub add-none : (f : List ℕ) (w : ℤ) (L : List Line) → length f ≡ 0 → add f w L ≡ L
@@ -20,15 +20,15 @@ unfolding add
 add-none [] w L e = refl
 add-none (t ∷ f) w L e = let z : ⊥ = omega arith in absurd z
 
-pub record Placed (t : Table) (f : List ℕ) (at : ℕ) (b : Bool) : Type 0 where
+pub record Located (t : Table) (f : List ℕ) (at : ℕ) (b : Bool) : Type 0 where
   pub place : at ≡ placeOf f (linesOf t)
   pub is-held : b ≡ isHeld f (linesOf t)
 
 -- its place and its weight tell both
-pub placed-by : {c : ℕ} {t : Table} {f : List ℕ} {at : ℕ} {w : ℤ} → Fits c t → at ≡ placeOf f (linesOf t) → w ≡ weight (linesOf t) f → Placed t f at (not (isZero w))
-placed-by {c} {t} {f} q p e = record { place = p; is-held = rw e (sym (held-weight f (linesOf t) (q .ordered))) }
+pub located-by : {c : ℕ} {t : Table} {f : List ℕ} {at : ℕ} {w : ℤ} → Fits c t → at ≡ placeOf f (linesOf t) → w ≡ weight (linesOf t) f → Located t f at (not (isZero w))
+located-by {c} {t} {f} q p e = record { place = p; is-held = rw e (sym (held-weight f (linesOf t) (q .ordered))) }
 
-module _ {c : ℕ} {t : Table} (q : Fits c t) {f : List ℕ} {at : ℕ} {b : Bool} (x : Placed t f at b) where
+module _ {c : ℕ} {t : Table} (q : Fits c t) {f : List ℕ} {at : ℕ} {b : Bool} (x : Located t f at b) where
   abbrev L : List Line
   L = linesOf t
 

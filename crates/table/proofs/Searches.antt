@@ -16,12 +16,12 @@ use Rattle.term.specs.OrderLaws.{key-before, key-small}
 use Rattle.polynomial.specs.Polynomial.{orderOf}
 use Rattle.polynomial.specs.OrderingLaws.{order-first, order-trans, order-irrefl, order-same}
 use Rattle.polynomial.specs.declared.Ordering.the-variants.{Earlier, Same, Later}
-use Rattle.configuration.specs.Configuration.{Line, line, some, Behind, Ordered, placeOf, isHeld}
+use Rattle.configuration.specs.Configuration.{Line, line, some, Behind, InOrder, placeOf, isHeld}
 use Rattle.configuration.specs.ConfigurationLaws.{order-earlier}
 use Rattle.configuration.specs.PlaceLaws.{place-le, earlier-left, earlier-right, same-here}
 use Rattle.table.specs.Rows.{Table, rowOf, keyIn, termsIn, linesAt, linesOf, Each, firstKey, Entered, Fits, ahead, Falling}
 use Rattle.table.specs.RowsLaws.{each-at, some-at, lines-long, length-lines, line-at, entered-at, line-some}
-use Rattle.table.specs.HeldLaws.{held, not-held}
+use Rattle.table.proofs.Held.{held, not-held}
 use Rattle.table.proofs.Keys.{ahead-le, ahead-higher}
 
 abbrev pub none : Line
@@ -50,10 +50,10 @@ module _ (f : List ℕ) (L : List Line) where
       behind = inr (inside, (g, (u, (e, o))));
     }
 
-    pub upper : Ordered L → orderOf f g ≡ Later → Between f L (i + 1) high
+    pub upper : InOrder L → orderOf f g ≡ Later → Between f L (i + 1) high
     upper r o = record { from = omega (arith, earlier-right f g u none i L r inside e o); to = b .to; in-table = b .in-table; behind = b .behind }
 
-    pub found : Ordered L → orderOf f g ≡ Same → (i ≡ placeOf f L) × (true ≡ isHeld f L)
+    pub found : InOrder L → orderOf f g ≡ Same → (i ≡ placeOf f L) × (true ≡ isHeld f L)
     found r o =
         let p : placeOf f L ≡ i = same-here f g u none i L r inside e o in
         (sym p, sym (held f none u L (rw p inside) (rw (p, order-same f g o) e)))
@@ -114,7 +114,7 @@ module _ (t : Table) (small : (j : ℕ) → getD (t .terms) j 0 < 2 ^ 32) where
   behind-at f zero (e ∷ is) b h = b .0
   behind-at f (suc i) (e ∷ is) b h = behind-at f i is (b .1) (le-of-suc-le-suc h)
 
-  entries-fall : (i j : ℕ) (is : List ℕ) → Ordered (linesAt t is) → Each (Entered t) is → i ≤ j → j < length is → keyIn (getD is j 0) ≤ keyIn (getD is i 0)
+  entries-fall : (i j : ℕ) (is : List ℕ) → InOrder (linesAt t is) → Each (Entered t) is → i ≤ j → j < length is → keyIn (getD is j 0) ≤ keyIn (getD is i 0)
   entries-fall i j [] r q o h = absurd (not-suc-le-zero h)
   entries-fall zero zero (e ∷ is) r q o h = omega arith
   entries-fall zero (suc j) (e ∷ is) r q o h =

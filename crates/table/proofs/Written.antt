@@ -9,10 +9,10 @@ use lib.Dec.{T}
 use lib.IntN.{ℤ, pos}
 use lib.ListN.{length, getD, set, take, drop, length-append, length-drop, length-set}
 use lib.Seq.{slice, length-slice, length-take-le, take-at, drop-at, take-take, drop-drop, split-at, getD-take, getD-set-same, getD-set-other}
-use Rattle.configuration.specs.Configuration.{Line, line, some, Behind, Ordered}
+use Rattle.configuration.specs.Configuration.{Line, line, some, Behind, InOrder}
 use Rattle.table.specs.Rows.{Table, rowOf, keyIn, termsIn, lineIn, linesAt, linesOf, Each, Misses, firstKey, Entered, Fits}
-use Rattle.table.specs.RowsLaws.{map-append, map-take, map-drop, each-append, each-front, each-take, each-drop, each-rest, lines-long, row-below, held-below}
-use Rattle.table.specs.OnceLaws.{entered, left, once-at, once-take, entered-once, left-once, entered-length, left-length}
+use Rattle.table.specs.RowsLaws.{lines-long, row-below, held-below}
+use Rattle.table.proofs.Entries.{map-append, map-take, map-drop, each-append, each-front, each-take, each-drop, each-rest, withEntry, withoutEntry, once-at, once-take, with-once, without-once, with-length, without-length}
 
 -- ---- terms written at the front of row r, over at most 64 places: the other rows stay
 module _ (r : ℕ) (f l : List ℕ) (hf : length f ≤ 64) (b : 64 * r + 64 ≤ length l) where
@@ -86,14 +86,14 @@ behind-without f zero (line g u ∷ L) b = b .1
 behind-without f (suc k) [] b = tt
 behind-without f (suc k) (line g u ∷ L) b = (b .0, behind-without f k L (b .1))
 
-ordered-without : (k : ℕ) (L : List Line) → Ordered L → Ordered (take k L ++ drop (suc k) L)
+ordered-without : (k : ℕ) (L : List Line) → InOrder L → InOrder (take k L ++ drop (suc k) L)
 ordered-without zero [] r = tt
 ordered-without zero (line g u ∷ L) r = r .1 .1 .1
 ordered-without (suc k) [] r = tt
 ordered-without (suc k) (line g u ∷ L) r = (r .0, (r .1 .0, (behind-without g k L (r .1 .1 .0), ordered-without k L (r .1 .1 .1))))
 
 -- the last of lines in order is not of 0
-pub last-some : (L : List Line) (f : List ℕ) (w : ℤ) → Ordered (L ++ line f w ∷ []) → T (some f)
+pub last-some : (L : List Line) (f : List ℕ) (w : ℤ) → InOrder (L ++ line f w ∷ []) → T (some f)
 last-some [] f w r = r .0
 last-some (line g u ∷ L) f w r = last-some L f w (r .1 .1 .1)
 
@@ -125,9 +125,9 @@ module _ {c : ℕ} {t : Table} (q : Fits c t) where
 
   -- ---- a line put in at a place: in the row of the first entry that no line has
   module _ (at r e : ℕ) (f : List ℕ) (w : ℤ) (ha : at ≤ n) (hc : n < c) (hf : length f ≤ 64) (er : r ≡ rowOf (getD is n 0)) (ee : e ≡ 128 * firstKey f + r)
-      (ord : Ordered (take at L ++ line f w ∷ drop at L)) where
+      (ord : InOrder (take at L ++ line f w ∷ drop at L)) where
     abbrev after : Table
-    after = record { lines = n + 1; order = entered at n e is; terms = take (64 * r) (t .terms) ++ (f ++ drop (64 * r + length f) (t .terms)); weights = set (t .weights) r w; counts = set (t .counts) r (length f) }
+    after = record { lines = n + 1; order = withEntry at n e is; terms = take (64 * r) (t .terms) ++ (f ++ drop (64 * r + length f) (t .terms)); weights = set (t .weights) r w; counts = set (t .counts) r (length f) }
 
     put-below : r < c
     put-below = rw er (row-below q n hc)
@@ -188,11 +188,11 @@ module _ {c : ℕ} {t : Table} (q : Fits c t) where
       record {
         capacity = q .capacity;
         room = omega arith;
-        order-length = entered-length at n e is ha (omega (arith, q .order-length)) ∙ q .order-length;
+        order-length = with-length at n e is ha (omega (arith, q .order-length)) ∙ q .order-length;
         terms-length = written-long r f (t .terms) hf place ∙ q .terms-length;
         weights-length = length-set (t .weights) r w ∙ q .weights-length;
         counts-length = length-set (t .counts) r (length f) ∙ q .counts-length;
-        once = entered-once c at n e is (q .once) ha (omega (arith, q .order-length)) (put-row ∙ er);
+        once = with-once c at n e is (q .once) ha (omega (arith, q .order-length)) (put-row ∙ er);
         entered = entered-put;
         ordered = rw lines-put ord;
       },
@@ -201,7 +201,7 @@ module _ {c : ℕ} {t : Table} (q : Fits c t) where
   -- ---- the line at a place taken out: its row comes behind those of the lines
   module _ (at r : ℕ) (ha : at < n) (er : r ≡ rowOf (getD is at 0)) where
     abbrev left-over : Table
-    left-over = record { lines = n - 1; order = left at n r is; terms = t .terms; weights = t .weights; counts = t .counts }
+    left-over = record { lines = n - 1; order = withoutEntry at n r is; terms = t .terms; weights = t .weights; counts = t .counts }
 
     out-row : rowOf r ≡ rowOf (getD is at 0)
     out-row = omega (arith, held-below q at ha, q .capacity)
@@ -223,11 +223,11 @@ module _ {c : ℕ} {t : Table} (q : Fits c t) where
       record {
         capacity = q .capacity;
         room = omega (arith, q .room);
-        order-length = left-length at n r is ha order-long ∙ q .order-length;
+        order-length = without-length at n r is ha order-long ∙ q .order-length;
         terms-length = q .terms-length;
         weights-length = q .weights-length;
         counts-length = q .counts-length;
-        once = left-once c at n r is (q .once) ha order-long out-row;
+        once = without-once c at n r is (q .once) ha order-long out-row;
         entered = rw entries-left (each-append (Entered t) (take at is) (slice (suc at) n is) (first-entered at (omega arith)) (last-entered (suc at)));
         ordered = rw lines-left (ordered-without at L (q .ordered));
       },
@@ -235,7 +235,7 @@ module _ {c : ℕ} {t : Table} (q : Fits c t) where
 
   -- ---- the line at a place weighed anew
   module _ (at r : ℕ) (f : List ℕ) (w : ℤ) (ha : at < n) (er : r ≡ rowOf (getD is at 0)) (ef : f ≡ termsIn t (rowOf (getD is at 0)))
-      (ord : Ordered (take at L ++ line f w ∷ drop (suc at) L)) where
+      (ord : InOrder (take at L ++ line f w ∷ drop (suc at) L)) where
     abbrev anew : Table
     anew = record { lines = n; order = is; terms = t .terms; weights = set (t .weights) r w; counts = t .counts }
 

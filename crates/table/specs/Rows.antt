@@ -11,7 +11,9 @@ use lib.Dec.{ltb}
 use lib.IntN.{ℤ, pos}
 use lib.ListN.{length, getD, take, drop}
 use Rattle.term.specs.Term.{keyOf}
-use Rattle.configuration.specs.Configuration.{Line, line, Ordered}
+use Rattle.refusal.specs.Outcome.{Told}
+use Rattle.configuration.specs.Configuration.{Line, line, InOrder}
+use Rattle.configuration.specs.Made.{Made}
 
 pub record Table : Type 0 where
   pub lines : ℕ
@@ -29,6 +31,10 @@ tableBefore n is ts ws cs = tableAt n (is .entry) (ts .entry) (ws .entry) (cs .e
 
 abbrev pub tableAfter : {A B C D : Type 0} → ℕ → Both A (RefT (List ℕ)) → Both B (RefT (List ℕ)) → Both C (RefT (List ℤ)) → Both D (RefT (List ℕ)) → Table
 tableAfter n is ts ws cs = tableAt n (is .exit) (ts .exit) (ws .exit) (cs .exit)
+
+-- the same areas, with so many lines
+abbrev pub withLines : ℕ → Table → Table
+withLines n t = record { lines = n; order = t .order; terms = t .terms; weights = t .weights; counts = t .counts }
 
 -- ---- the lines that a table holds
 abbrev pub rowOf : ℕ → ℕ
@@ -50,10 +56,6 @@ linesAt t is = map (λ e. lineIn t (rowOf e)) is
 
 abbrev pub linesOf : Table → List Line
 linesOf t = linesAt t (take (t .lines) (t .order))
-
--- the weights in the rows of some entries
-abbrev pub weightsAt : List ℤ → List ℕ → List ℤ
-weightsAt ws is = map (λ e. getD ws (rowOf e) (pos 0)) is
 
 -- how many lines a table has room for
 abbrev pub capacityOf : Table → ℕ
@@ -92,11 +94,15 @@ pub record Fits (c : ℕ) (t : Table) : Type 0 where
   pub counts-length : length (t .counts) ≡ c
   pub once : Once c (t .order)
   pub entered : Each (Entered t) (take (t .lines) (t .order))
-  pub ordered : Ordered (linesOf t)
+  pub ordered : InOrder (linesOf t)
 
 -- a table fits and holds the lines L: what a function that changes it leaves
 abbrev pub Holds : ℕ → List Line → Table → Type 0
 Holds c L t = (linesOf t ≡ L) × Fits c t
+
+-- what an operation makes, where a table holds the lines
+abbrev pub madeIn : {A : Type 0} → ℕ → Table → Told A → Made A
+madeIn n t told = record { variables = n; lines = linesOf t; told = told }
 
 -- ---- keys
 -- how many entries at the front have a key above k

@@ -1,34 +1,21 @@
--- Laws of a table that fits: line i of it is the line in the row of entry i, and what holds of that row; and a fresh table, which holds no line.
-use mathlib.Core.Path.{_≡_, refl, sym, ap, subst, _∙_}
-use mathlib.Core.Bool.{Bool, true, false, not, cond, _&&_}
-use mathlib.Core.List.{List, [], _∷_, _++_, map}
+-- Laws of a table that fits: how many lines it holds, line i of it is the line in the row of entry i, and what holds of that row; and a fresh table, which
+-- holds no line.
+use mathlib.Core.Path.{_≡_, refl, sym, ap, ap₂, subst, _∙_}
+use mathlib.Core.List.{List, [], _∷_, map}
 use Prim.Native.Nat.{ℕ, zero, suc, _+_, _*_, _≤_, _<_}
 use native.Mathlib.Nat.{le-of-suc-le-suc, not-suc-le-zero, add-zero}
+use native.Mathlib.Numerals.{add-one}
 use native.Mathlib.Omega.{arith}
 use lib.Dec.{T}
 use lib.IntN.{ℤ, pos}
-use lib.ListN.{length, getD, take, drop, length-map}
+use lib.ListN.{length, getD, take, drop, replicate, length-map, length-take, length-replicate, drop-of-length-le}
 use lib.Seq.{getD-take, getD-drop, drop-cons, length-take-le}
-use Rattle.configuration.specs.Weight.{inRange, allInRange, isNegative, noneNegative}
-use Rattle.configuration.specs.Configuration.{Line, line, some, Behind, Ordered, weightsFit, anyNegative}
-use Rattle.table.specs.Rows.{Table, rowOf, termsIn, lineIn, linesAt, linesOf, weightsAt, capacityOf, Each, Misses, Once, Entered, Fits, inTurn}
+use Rattle.configuration.specs.Configuration.{Line, line, some, InOrder}
+use Rattle.configuration.specs.LineLaws.{Short}
+use Rattle.table.specs.Rows.{Table, rowOf, termsIn, lineIn, linesAt, linesOf, capacityOf, Each, Misses, Once, Entered, Fits, inTurn}
 
 -- ---- what is made of each element of a list
 module _ {A B : Type 0} (f : A → B) where
-  pub map-append : (l m : List A) → map f (l ++ m) ≡ map f l ++ map f m
-  map-append [] m = refl
-  map-append (x ∷ l) m = ap (λ (r : List B). f x ∷ r) (map-append l m)
-
-  pub map-take : (n : ℕ) (l : List A) → map f (take n l) ≡ take n (map f l)
-  map-take zero l = refl
-  map-take (suc n) [] = refl
-  map-take (suc n) (x ∷ l) = ap (λ (r : List B). f x ∷ r) (map-take n l)
-
-  pub map-drop : (n : ℕ) (l : List A) → map f (drop n l) ≡ drop n (map f l)
-  map-drop zero l = refl
-  map-drop (suc n) [] = refl
-  map-drop (suc n) (x ∷ l) = map-drop n l
-
   pub map-at : (i : ℕ) (l : List A) (z : A) (d : B) → i < length l → getD (map f l) i d ≡ f (getD l i z)
   map-at i [] z d h = absurd (not-suc-le-zero h)
   map-at zero (x ∷ l) z d h = refl
@@ -36,28 +23,6 @@ module _ {A B : Type 0} (f : A → B) where
 
 -- ---- a fact of each entry
 module _ (P : ℕ → Type 0) where
-  pub each-append : (is js : List ℕ) → Each P is → Each P js → Each P (is ++ js)
-  each-append [] js a b = b
-  each-append (e ∷ is) js a b = (a .0, each-append is js (a .1) b)
-
-  pub each-front : (is js : List ℕ) → Each P (is ++ js) → Each P is
-  each-front [] js a = tt
-  each-front (e ∷ is) js a = (a .0, each-front is js (a .1))
-
-  pub each-rest : (is js : List ℕ) → Each P (is ++ js) → Each P js
-  each-rest [] js a = a
-  each-rest (e ∷ is) js a = each-rest is js (a .1)
-
-  pub each-take : (n : ℕ) (is : List ℕ) → Each P is → Each P (take n is)
-  each-take zero is a = tt
-  each-take (suc n) [] a = tt
-  each-take (suc n) (e ∷ is) a = (a .0, each-take n is (a .1))
-
-  pub each-drop : (n : ℕ) (is : List ℕ) → Each P is → Each P (drop n is)
-  each-drop zero is a = a
-  each-drop (suc n) [] a = tt
-  each-drop (suc n) (e ∷ is) a = each-drop n is (a .1)
-
   pub each-at : (i : ℕ) (is : List ℕ) → Each P is → i < length is → P (getD is i 0)
   each-at i [] a h = absurd (not-suc-le-zero h)
   each-at zero (e ∷ is) a h = a .0
@@ -67,10 +32,18 @@ pub once-each : (c : ℕ) (is : List ℕ) → Once c is → Each (λ e. rowOf e 
 once-each c [] o = tt
 once-each c (e ∷ is) o = (o .0, once-each c is (o .1 .1))
 
-pub some-at : (t : Table) (i : ℕ) (is : List ℕ) → Ordered (linesAt t is) → i < length is → T (some (termsIn t (rowOf (getD is i 0))))
+pub some-at : (t : Table) (i : ℕ) (is : List ℕ) → InOrder (linesAt t is) → i < length is → T (some (termsIn t (rowOf (getD is i 0))))
 some-at t i [] r h = absurd (not-suc-le-zero h)
 some-at t zero (e ∷ is) r h = r .0
 some-at t (suc i) (e ∷ is) r h = some-at t i is (r .1 .1 .1) (le-of-suc-le-suc h)
+
+-- a row counts at most 64 terms
+short-row : (t : Table) (e : ℕ) → Entered t e → length (termsIn t (rowOf e)) ≤ 64
+short-row t e a = omega (arith, length-take (getD (t .counts) (rowOf e) 0) (drop (64 * rowOf e) (t .terms)), a .1)
+
+short-rows : (t : Table) (is : List ℕ) → Each (Entered t) is → Short (linesAt t is)
+short-rows t [] a = tt
+short-rows t (e ∷ is) a = (short-row t e (a .0), short-rows t is (a .1))
 
 -- ---- a table that fits
 module _ {c : ℕ} {t : Table} (q : Fits c t) where
@@ -79,6 +52,16 @@ module _ {c : ℕ} {t : Table} (q : Fits c t) where
 
   pub length-lines : length (linesOf t) ≡ t .lines
   length-lines = length-map (take (t .lines) (t .order)) (λ e. lineIn t (rowOf e)) ∙ lines-long
+
+  pub lines-few : length (linesOf t) ≤ c
+  lines-few = omega (arith, length-lines, q .room)
+
+  pub lines-short : Short (linesOf t)
+  lines-short = short-rows t (take (t .lines) (t .order)) (q .entered)
+
+  -- no line is left
+  pub lines-end : (i : ℕ) → t .lines ≤ i → drop i (linesOf t) ≡ []
+  lines-end i h = let k : length (linesOf t) ≤ i = omega (arith, length-lines) in drop-of-length-le (linesOf t) k
 
   -- the row of an entry, also of one that no line has
   pub row-below : (i : ℕ) → i < c → rowOf (getD (t .order) i 0) < c
@@ -95,8 +78,16 @@ module _ {c : ℕ} {t : Table} (q : Fits c t) where
     pub line-at : (d : Line) → getD (linesOf t) i d ≡ lineIn t r
     line-at d = map-at (λ e. lineIn t (rowOf e)) i (take (t .lines) (t .order)) 0 d (omega (arith, lines-long)) ∙ ap (λ (e : ℕ). lineIn t (rowOf e)) entry-is
 
+    -- it is the first of the lines from i on
+    pub lines-from : drop i (linesOf t) ≡ lineIn t r ∷ drop (i + 1) (linesOf t)
+    lines-from = let d : Line = line [] (pos 0) in
+        drop-cons (linesOf t) i d (omega (arith, length-lines)) ∙ ap₂ (λ (x : Line) (k : ℕ). x ∷ drop k (linesOf t)) (line-at d) (sym (add-one i))
+
     pub entered-at : Entered t (getD (t .order) i 0)
     entered-at = rw entry-is at (each-at (Entered t) i (take (t .lines) (t .order)) (q .entered) (omega (arith, lines-long)))
+
+    pub line-short : length (termsIn t r) ≤ 64
+    line-short = short-row t (getD (t .order) i 0) entered-at
 
     pub line-some : T (some (termsIn t r))
     line-some = rw entry-is at (some-at t i (take (t .lines) (t .order)) (q .ordered) (omega (arith, lines-long)))
@@ -106,22 +97,6 @@ module _ {c : ℕ} {t : Table} (q : Fits c t) where
 
     pub row-fits : 64 * r + getD (t .counts) r 0 ≤ length (t .terms)
     row-fits = omega (arith, held-below, entered-at .1, q .terms-length)
-
--- ---- the weights of the lines are those of their rows
-pub weights-sign : (t : Table) (is : List ℕ) → noneNegative (weightsAt (t .weights) is) ≡ not (anyNegative (linesAt t is))
-unfolding noneNegative anyNegative
-weights-sign t [] = refl
-weights-sign t (e ∷ is) = go (isNegative (getD (t .weights) (rowOf e) (pos 0))) (weights-sign t is)
-  where
-    go : (b : Bool) → noneNegative (weightsAt (t .weights) is) ≡ not (anyNegative (linesAt t is))
-        → (not b && noneNegative (weightsAt (t .weights) is)) ≡ not (cond b true (anyNegative (linesAt t is)))
-    go true r = refl
-    go false r = r
-
-pub weights-range : (t : Table) (is : List ℕ) → allInRange (weightsAt (t .weights) is) ≡ weightsFit (linesAt t is)
-unfolding allInRange weightsFit
-weights-range t [] = refl
-weights-range t (e ∷ is) = ap (λ (b : Bool). inRange (getD (t .weights) (rowOf e) (pos 0)) && b) (weights-range t is)
 
 -- ---- the first line, and its first term
 first-term : (n : ℕ) (l : List ℕ) → T (some (take n l)) → take n l ≡ getD l 0 0 ∷ drop 1 (take n l)
@@ -172,21 +147,15 @@ fresh-fits c ts ws cs b lt lw lc = record {
   ordered = tt;
 }
 
+-- as code makes one of 128 lines, all zero
+pub blank-fits : Fits 128 (record { lines = 0; order = inTurn 128 0; terms = replicate 8192 0; weights = replicate 128 (pos 0); counts = replicate 128 0 })
+blank-fits = fresh-fits 128 (replicate 8192 0) (replicate 128 (pos 0)) (replicate 128 0) (omega arith) (length-replicate {A = ℕ} 8192 0) (length-replicate {A = ℤ} 128 (pos 0))
+    (length-replicate {A = ℕ} 128 0)
+
 -- an empty table of four, as code writes its order
 pub four-order : 0 ∷ 1 ∷ 2 ∷ 3 ∷ [] ≡ inTurn 4 0
 unfolding inTurn
 four-order = refl
-
--- lines that are put behind one another are in order as far as they have come
-behind-take : (f : List ℕ) (k : ℕ) (L : List Line) → Behind f L → Behind f (take k L)
-behind-take f zero L b = tt
-behind-take f (suc k) [] b = tt
-behind-take f (suc k) (line g u ∷ L) b = (b .0, behind-take f k L (b .1))
-
-pub ordered-take : (k : ℕ) (L : List Line) → Ordered L → Ordered (take k L)
-ordered-take zero L r = tt
-ordered-take (suc k) [] r = tt
-ordered-take (suc k) (line g u ∷ L) r = (r .0, (r .1 .0, (behind-take g k L (r .1 .1 .0), ordered-take k L (r .1 .1 .1))))
 
 -- ---- the capacity, as a function is asked for it that has the areas alone
 pub of-capacity : {c : ℕ} {t : Table} → Fits c t → Fits (capacityOf t) t

@@ -2,17 +2,3 @@
 // of a function with a `requires` have made the table, and tested the polynomials.
 pub mod lines;
 pub mod order;
-pub mod replace;
-
-// Whether a replacement was made, or which limit forbade it.
-pub enum Verdict {
-    Done,
-    TooManyLines,
-    WeightTooLarge,
-}
-
-// A replacement's verdict, and how many lines it leaves.
-pub struct Replaced {
-    pub lines: usize,
-    pub verdict: Verdict,
-}

@@ -3,6 +3,7 @@ use crate::order::ahead;
 use crate::order::insert_entry;
 use crate::order::remove_entry;
 use crate::order::row_at;
+use configuration::weight::is_negative;
 use polynomial::Ordering;
 use polynomial::Polynomial;
 use polynomial::area::write;
@@ -18,8 +19,7 @@ ghost use lib.IntN.{_+ℤ_};
 ghost use lib.Signed.{mag};
 ghost use lib.ListN.{length, getD, take, drop};
 ghost use Rattle.polynomial.specs.Polynomial.{orderOf};
-ghost use Rattle.configuration.specs.Weight.{isNegative};
-ghost use Rattle.configuration.specs.Configuration.{line, some, weight, add, Ordered, placeOf, isHeld, anyNegative};
+ghost use Rattle.configuration.specs.Configuration.{line, some, weight, add, InOrder, placeOf, isHeld, anyNegative};
 ghost use Rattle.table.specs.Rows.{tableAt, tableBefore, tableAfter, rowOf, keyIn, linesOf, capacityOf, Once, firstKey, Fits, Holds};
 
 // Where a polynomial stands, or would stand, among the lines, and whether it is held.
@@ -28,7 +28,8 @@ pub struct Place {
     pub held: bool,
 }
 
-// The terms in a row: a part of the area. It is for this crate and those that read a table line by line.
+// The terms in a row: a part of the area. It is for this crate, for `replacement`, and for `memory` and `listing`, which read lines
+// one by one.
 pub fn row(terms: &[u32], i: usize, count: usize) -> &[u32]
     requires { ⌜ 64 * i + count ≤ length (now terms) ⌝ }
     ensures { λ r. ⌜ now r ≡ take count (drop (64 * i) (now (terms .entry))) ⌝ }
@@ -107,7 +108,7 @@ pub struct Known {
     pub weight: i64,
 }
 
-// Looks up a polynomial, not 0, whose first term has the given key. It is for this crate.
+// Looks up a polynomial, not 0, whose first term has the given key. It is for this crate and `replacement`.
 pub fn look_up(
     lines: usize,
     order: &[u64],
@@ -131,7 +132,7 @@ pub fn look_up(
     Known { at, weight: 0 }
 }
 
-// The weight of a polynomial, not 0. It is for the crate `step`.
+// The weight of a polynomial, not 0. It is for the crates `step` and `derivation`.
 pub fn weight_of(
     lines: usize,
     order: &[u64],
@@ -161,7 +162,7 @@ fn insert_line(
     weight: i64,
 ) -> usize
     requires { let t = tableAt lines order terms weights counts in let c = capacityOf t in let L = linesOf t in let p = now f in
-        ⌜ Fits c t × (at ≤ lines) × (lines < c) × T (some p) × (length p ≤ 64) × (first ≡ firstKey p) × Ordered (take at L ++ line p weight ∷ drop at L) ⌝ }
+        ⌜ Fits c t × (at ≤ lines) × (lines < c) × T (some p) × (length p ≤ 64) × (first ≡ firstKey p) × InOrder (take at L ++ line p weight ∷ drop at L) ⌝ }
     ensures { λ r. let t = tableBefore lines order terms weights counts in let L = linesOf t in
         ⌜ Holds (capacityOf t) (take at L ++ line (now (f .entry)) weight ∷ drop at L) (tableAfter r order terms weights counts) ⌝ }
 {
@@ -192,7 +193,7 @@ fn remove_line(
 }
 
 // Folds a weighted polynomial, not 0, in at its place, where the key of its first term and its weight so far are known: 0 if it
-// is not held. It is for this crate.
+// is not held. It is for this crate and `replacement`.
 pub fn fold_at(
     lines: usize,
     order: &mut [u64],
@@ -261,7 +262,7 @@ pub fn fold_in(
     )
 }
 
-// Puts a line behind all others. It is for the crates that fill a table line by line, each behind the one before.
+// Puts a line behind all others. It is for the crate `memory`, which fills a table line by line, each behind the one before.
 pub fn append(
     lines: usize,
     order: &mut [u64],
@@ -272,7 +273,7 @@ pub fn append(
     weight: i64,
 ) -> usize
     requires { let t = tableAt lines order terms weights counts in let c = capacityOf t in let p = now f in
-        ⌜ Fits c t × (lines < c) × (length p ≤ 64) × Ordered (linesOf t ++ line p weight ∷ []) ⌝ }
+        ⌜ Fits c t × (lines < c) × (length p ≤ 64) × InOrder (linesOf t ++ line p weight ∷ []) ⌝ }
     ensures { λ r. let t = tableBefore lines order terms weights counts in let L = linesOf t in
         ⌜ Holds (capacityOf t) (L ++ line (now (f .entry)) weight ∷ []) (tableAfter r order terms weights counts) ⌝ }
 {
@@ -290,15 +291,8 @@ pub fn append(
     )
 }
 
-// Whether a weight is negative.
-fn is_negative(weight: i64) -> bool
-    ensures { λ r. ⌜ r ≡ isNegative weight ⌝ }
-{
-    weight < 0
-}
-
 // Whether no line is negative: the bits of the weights are joined, without a branch, and the sign is that of any negative one. It
-// is for the crate `step`.
+// is for the crates `step` and `derivation`.
 pub fn none_negative(lines: usize, order: &[u64], weights: &[i64]) -> bool
     requires { ⌜ (lines ≤ length (now order)) × Once (length (now weights)) (now order) ⌝ }
     ensures { λ r. ⌜ ((terms counts : List ℕ) → r ≡ not (anyNegative (linesOf

@@ -8,7 +8,7 @@ use native.Mathlib.Omega.{arith}
 use lib.Dec.{T, ltb, eqb, eqb→eq, ltb→lt, lt→ltb}
 use lib.Pow.{low}
 use Rattle.term.specs.Term.{value, degreeOf, before, keyOf, maskOf}
-use Rattle.run.specs.Boolean.{bool-ext, both, left, right, eq→eqb}
+use Rattle.run.specs.BooleanLaws.{bool-ext, both, left, right, eq→eqb}
 use Rattle.term.specs.TermLaws.{value-other, degree-le}
 
 -- what the test says, in numbers

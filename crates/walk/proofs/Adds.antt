@@ -8,14 +8,14 @@ use lib.Dec.{T, eqb}
 use lib.ListN.{length, take}
 use lib.Seq.{length-take-le}
 use borrow.Author.Tests.{eq-eqb, ne-eqb}
+use Rattle.refusal.specs.Outcome.{accepted, refused, Reached, after, stopOf}
+use Rattle.refusal.specs.OutcomeLaws.{after-accepted, after-refused}
+use Rattle.refusal.specs.declared.Objection.the-variants.{Nothing, Found}
 use Rattle.refusal.specs.Refusal.{numberOf}
 use Rattle.refusal.specs.declared.Reason.{Reason}
 use Rattle.configuration.specs.Configuration.{some, isPolynomial}
-use Rattle.walk.specs.Walk.{accepted, turnedDown, stopOf, Walked, after}
 use Rattle.walk.specs.Work.{termAdded}
-use Rattle.walk.specs.WalkLaws.{after-refused, after-accepted}
 use Rattle.walk.specs.WorkLaws.{term-polynomial}
-use Rattle.walk.specs.declared.Turn.the-variants.{Accepted, Refused}
 use Rattle.walk.specs.declared.Work.{Work}
 
 -- ---- a polynomial of no terms has none
@@ -26,12 +26,12 @@ held-none (suc k) (t ∷ us) h = ne-eqb (suc k) 0 (λ e. omega arith)
 
 -- ---- what the answer says of the sum: the first k terms of us before the record, those of vs after it
 module _ (n : ℕ) (s : List ℕ) (at : ℕ) (us : List ℕ) (k : ℕ) (vs : List ℕ) (r : Work)
-    (e : _≡_ {A = Walked (List ℕ)} (record { reached = take (r .count) vs; stop = stopOf (r .turn) }) (after (take k us) (termAdded n s at (take k us)))) where
-  module _ (reason : Reason) (t : r .turn ≡ Refused reason) where
-    down : (termAdded n s at (take k us) ≡ turnedDown (numberOf reason)) × (take (r .count) vs ≡ take k us)
+    (e : _≡_ {A = Reached (List ℕ)} (record { reached = take (r .count) vs; stop = stopOf (r .objection) }) (after (take k us) (termAdded n s at (take k us)))) where
+  module _ (reason : Reason) (t : r .objection ≡ Found reason) where
+    down : (termAdded n s at (take k us) ≡ refused (numberOf reason)) × (take (r .count) vs ≡ take k us)
     down = after-refused (take k us) (take (r .count) vs) (numberOf reason) (termAdded n s at (take k us)) (rw t at e)
 
-    pub term-refused : termAdded n s at (take k us) ≡ turnedDown (numberOf reason)
+    pub term-refused : termAdded n s at (take k us) ≡ refused (numberOf reason)
     term-refused = down .0
 
     -- the polynomial is as it was, and as long
@@ -40,7 +40,7 @@ module _ (n : ℕ) (s : List ℕ) (at : ℕ) (us : List ℕ) (k : ℕ) (vs : Lis
         let same : r .count ≡ k = omega (arith, length-take-le (r .count) vs (omega arith), length-take-le k us (omega arith), ap length (down .1)) in
         ap (λ (j : ℕ). take j vs) (sym same) ∙ down .1
 
-  module _ (t : r .turn ≡ Accepted) where
+  module _ (t : r .objection ≡ Nothing) where
     pub term-accepted : termAdded n s at (take k us) ≡ accepted (take (r .count) vs)
     term-accepted = after-accepted (take k us) (take (r .count) vs) (termAdded n s at (take k us)) (rw t at e)
 

@@ -6,18 +6,18 @@ use Prim.Native.Nat.{ℕ, _^_, _<_, _≤_}
 use lib.Dec.{leb, ltb}
 use lib.ListN.{length}
 use borrow.Author.Tests.{lt-leb, le-leb}
+use Rattle.refusal.specs.Outcome.{Stop, nothing, refusedFor, Reached, after}
 use Rattle.polynomial.specs.Polynomial.{sumOf}
 use Rattle.record.specs.Record.{whole, numberAt, maskIn}
 use Rattle.record.specs.declared.Mask.the-variants.{Whole, Cut}
 use Rattle.record.proofs.Bodies.{mask-cut, mask-whole}
-use Rattle.walk.specs.Walk.{Stop, nothing, refusedFor, Walked, after}
 use Rattle.walk.specs.Work.{termAdded}
 
-abbrev stopped : List ℕ → Stop → Walked (List ℕ)
+abbrev stopped : List ℕ → Stop → Reached (List ℕ)
 stopped f x = record { reached = f; stop = x }
 
 module _ (n : ℕ) (s : List ℕ) (at : ℕ) (f : List ℕ) where
-  abbrev told : Walked (List ℕ)
+  abbrev told : Reached (List ℕ)
   told = after f (termAdded n s at f)
 
   pub cut-short : maskIn s at ≡ Cut → stopped f (refusedFor 3) ≡ told

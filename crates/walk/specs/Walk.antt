@@ -1,26 +1,11 @@
 -- Records one after the other, in either file. Document 01: "A record that doesn't come out whole ends the walk there and then." Each kind of file has
 -- a reader: what a record does to the state, and whether the state is complete where the bytes end.
-use mathlib.Core.Bool.{Bool, true, false, cond}
+use mathlib.Core.Bool.{Bool, cond}
 use mathlib.Core.List.{List, [], _++_}
 use Prim.Native.Nat.{ℕ, zero, suc, _+_}
 use lib.Dec.{leb}
 use lib.ListN.{length}
-use Rattle.refusal.specs.Refusal.{numberOf}
-use Rattle.walk.specs.declared.Turn.{Turn}
-use Rattle.walk.specs.declared.Turn.the-variants.{Accepted, Refused}
-
--- accepted with what it makes, or the number of its refusal
-pub data Outcome (A : Type 0) : Type 0 where
-  accepted : A → Outcome A
-  turnedDown : ℕ → Outcome A
-
-abbrev pub unless : {A : Type 0} → Bool → ℕ → Outcome A → Outcome A
-unless true n r = r
-unless false n r = turnedDown n
-
-abbrev pub mapped : {A B : Type 0} → (A → B) → Outcome A → Outcome B
-mapped h (accepted x) = accepted (h x)
-mapped h (turnedDown n) = turnedDown n
+use Rattle.refusal.specs.Outcome.{Outcome, accepted, refused, Stop, nothing, refusedFor, Reached, Told, answered, refusedAt}
 
 -- where the next record begins, how many are accepted, and the state that they made
 pub record Progress (S : Type 0) : Type 0 where
@@ -40,45 +25,32 @@ pub record Reader (S : Type 0) : Type 0 where
   pub complete : S → Bool
 
 -- ---- how far a walk comes, and what stops it
-pub data Stop : Type 0 where
-  nothing : Stop
-  refusedFor : ℕ → Stop
-
-pub record Walked (A : Type 0) : Type 0 where
-  pub reached : A
-  pub stop : Stop
-
--- the paper's number of what code answers for one record
-abbrev pub stopOf : Turn → Stop
-stopOf Accepted = nothing
-stopOf (Refused reason) = refusedFor (numberOf reason)
-
--- one thing alone: what it makes, or what was there before and why
-abbrev pub after : {A : Type 0} → A → Outcome A → Walked A
-after x (accepted y) = record { reached = y; stop = nothing }
-after x (turnedDown n) = record { reached = x; stop = refusedFor n }
-
 -- a record is accepted and the rest goes on, or it is turned down
-abbrev pub next : {A : Type 0} → A → (A → Walked A) → Outcome A → Walked A
+abbrev pub next : {A : Type 0} → A → (A → Reached A) → Outcome A → Reached A
 next x rest (accepted y) = rest y
-next x rest (turnedDown n) = record { reached = x; stop = refusedFor n }
+next x rest (refused n) = record { reached = x; stop = refusedFor n }
 
 -- the end of the bytes
-abbrev pub over : {S : Type 0} → Reader S → Progress S → Walked (Progress S)
+abbrev pub over : {S : Type 0} → Reader S → Progress S → Reached (Progress S)
 over R p = record { reached = p; stop = cond (R .complete (p .state)) nothing (refusedFor 15) }
 
 -- each record takes at least one byte, so that as many turns as bytes are enough
-unfoldable pub walk : {S : Type 0} → Reader S → ℕ → List ℕ → Progress S → Walked (Progress S)
+unfoldable pub walk : {S : Type 0} → Reader S → ℕ → List ℕ → Progress S → Reached (Progress S)
 walk R zero s p = over R p
 walk R (suc k) s p = cond (leb (length s) (p .at)) (over R p) (next p (λ q. walk R k s q) (R .onRecord s p))
 
-abbrev pub readAll : {S : Type 0} → Reader S → List ℕ → S → Walked (Progress S)
+abbrev pub readAll : {S : Type 0} → Reader S → List ℕ → S → Reached (Progress S)
 readAll R s x = walk R (length s) s (begun x)
+
+-- what is told where a walk ends: an answer, or the refusal that stopped it, which "names the number of records accepted before it plus one"
+abbrev pub verdict : {A : Type 0} → ℕ → A → Stop → Told A
+verdict k x nothing = answered x
+verdict k x (refusedFor n) = refusedAt (suc k) n
 
 -- ---- what the accepted records give, in their order
 abbrev pub onward : {S A : Type 0} → (Progress S → List A) → List A → Outcome (Progress S) → List A
 onward rest C (accepted q) = C ++ rest q
-onward rest C (turnedDown n) = []
+onward rest C (refused n) = []
 
 unfoldable pub gathered : {S A : Type 0} → Reader S → (List ℕ → Progress S → List A) → ℕ → List ℕ → Progress S → List A
 gathered R give zero s p = []

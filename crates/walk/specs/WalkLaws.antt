@@ -9,31 +9,32 @@ use native.Mathlib.Omega.{arith}
 use lib.Dec.{T, leb, leb→le, nleb→lt, le→leb}
 use lib.ListN.{length, take}
 use lib.Seq.{length-take-le}
-use Rattle.run.specs.Boolean.{is-true, is-false, of-true}
-use Rattle.walk.specs.Walk.{Outcome, accepted, turnedDown, unless, mapped, Progress, begun, Reader, nothing, refusedFor, Walked, after, next, over, walk, readAll, onward, gathered}
+use Rattle.refusal.specs.Outcome.{Outcome, accepted, refused, unless, mapped, Stop, nothing, refusedFor, Reached, refusedAt}
+use Rattle.run.specs.BooleanLaws.{is-true, is-false, of-true}
+use Rattle.walk.specs.Walk.{Progress, begun, Reader, next, over, walk, readAll, verdict, onward, gathered}
 
 -- ---- one outcome
 -- what holds of every refusal, and of what follows a test that holds, holds behind the test
-pub unless-ind : {A : Type 0} (P : Outcome A → Type 0) (b : Bool) (n : ℕ) {r : Outcome A} → ((n : ℕ) → P (turnedDown n)) → (T b → P r) → P (unless b n r)
+pub unless-ind : {A : Type 0} (P : Outcome A → Type 0) (b : Bool) (n : ℕ) {r : Outcome A} → ((n : ℕ) → P (refused n)) → (T b → P r) → P (unless b n r)
 unless-ind P true n nay yea = yea tt
 unless-ind P false n nay yea = nay n
 
-pub mapped-ind : {A B : Type 0} (P : Outcome B → Type 0) (h : A → B) (r : Outcome A) → ((n : ℕ) → P (turnedDown n))
+pub mapped-ind : {A B : Type 0} (P : Outcome B → Type 0) (h : A → B) (r : Outcome A) → ((n : ℕ) → P (refused n))
     → ((x : A) → r ≡ accepted x → P (accepted (h x))) → P (mapped h r)
 mapped-ind P h (accepted x) nay yea = yea x refl
-mapped-ind P h (turnedDown n) nay yea = nay n
+mapped-ind P h (refused n) nay yea = nay n
 
 -- what holds of what was accepted
-abbrev pub Kept : {A : Type 0} → (A → Type 0) → Outcome A → Type 0
-Kept Q (accepted q) = Q q
-Kept Q (turnedDown n) = Unit {0}
+abbrev pub IfAccepted : {A : Type 0} → (A → Type 0) → Outcome A → Type 0
+IfAccepted Q (accepted q) = Q q
+IfAccepted Q (refused n) = Unit {0}
 
 module _ {S : Type 0} (R : Reader S) where
   -- ---- all records: what holds where a walk ends or is refused, and is carried back by each accepted record, holds of it and what it gathers
-  pub walk-ind : {A : Type 0} (give : List ℕ → Progress S → List A) (Q : Progress S → Walked (Progress S) → List A → Type 0) (s : List ℕ)
+  pub walk-ind : {A : Type 0} (give : List ℕ → Progress S → List A) (Q : Progress S → Reached (Progress S) → List A → Type 0) (s : List ℕ)
       → ((p : Progress S) → Q p (over R p) [])
-      → ((p : Progress S) (n : ℕ) → R .onRecord s p ≡ turnedDown n → Q p (record { reached = p; stop = refusedFor n }) [])
-      → ((p q : Progress S) (F : Walked (Progress S)) (C : List A) → R .onRecord s p ≡ accepted q → Q q F C → Q p F (give s p ++ C))
+      → ((p : Progress S) (n : ℕ) → R .onRecord s p ≡ refused n → Q p (record { reached = p; stop = refusedFor n }) [])
+      → ((p q : Progress S) (F : Reached (Progress S)) (C : List A) → R .onRecord s p ≡ accepted q → Q q F C → Q p F (give s p ++ C))
       → (k : ℕ) (p : Progress S) → Q p (walk R k s p) (gathered R give k s p)
   unfolding walk gathered
   walk-ind give Q s atEnd atRefusal back zero p = atEnd p
@@ -43,7 +44,7 @@ module _ {S : Type 0} (R : Reader S) where
           → Q p (cond b (over R p) (next p (λ q. walk R k s q) r)) (cond b [] (onward (λ q. gathered R give k s q) (give s p) r))
       go true r e rest = atEnd p
       go false (accepted q) e rest = back p q (walk R k s q) (gathered R give k s q) e (rest q)
-      go false (turnedDown n) e rest = atRefusal p n e
+      go false (refused n) e rest = atRefusal p n e
 
   -- what every accepted record keeps holds where a walk ends or is refused
   pub walk-keeps : (Q : Progress S → Type 0) (s : List ℕ) → ((p q : Progress S) → R .onRecord s p ≡ accepted q → Q p → Q q)
@@ -75,16 +76,16 @@ module _ {S : Type 0} (R : Reader S) where
   unfolding walk
   steps j s p q h e = rw (more s p h, e)
 
-  pub refuses : (j : ℕ) (s : List ℕ) (p : Progress S) (n : ℕ) → p .at < length s → R .onRecord s p ≡ turnedDown n
+  pub refuses : (j : ℕ) (s : List ℕ) (p : Progress S) (n : ℕ) → p .at < length s → R .onRecord s p ≡ refused n
       → walk R (suc j) s p ≡ record { reached = p; stop = refusedFor n }
   unfolding walk
   refuses j s p n h e = rw (more s p h, e)
 
   -- a record that is refused is passed in no number of turns
-  stays : (j : ℕ) (s : List ℕ) (p : Progress S) (n : ℕ) → p .at < length s → R .onRecord s p ≡ turnedDown n → (walk R j s p) .reached ≡ p
+  stays : (j : ℕ) (s : List ℕ) (p : Progress S) (n : ℕ) → p .at < length s → R .onRecord s p ≡ refused n → (walk R j s p) .reached ≡ p
   unfolding walk
   stays zero s p n h e = refl
-  stays (suc j) s p n h e = ap (λ (x : Walked (Progress S)). x .reached) (refuses j s p n h e)
+  stays (suc j) s p n h e = ap (λ (x : Reached (Progress S)). x .reached) (refuses j s p n h e)
 
   -- a walk of more turns passes through where a walk of fewer comes
   pub passes : (i k : ℕ) (s : List ℕ) (p : Progress S) → (walk R (k + i) s p) .reached ≡ (walk R i s ((walk R k s p) .reached)) .reached
@@ -97,13 +98,13 @@ module _ {S : Type 0} (R : Reader S) where
       go : (b : Bool) → leb (length s) (p .at) ≡ b → (r : Outcome (Progress S)) → R .onRecord s p ≡ r
           → ((q : Progress S) → (walk R (k + i) s q) .reached ≡ (walk R i s ((walk R k s q) .reached)) .reached)
           → (cond b (over R p) (next p (λ q. walk R (k + i) s q) r)) .reached ≡ (walk R i s ((cond b (over R p) (next p (λ q. walk R k s q) r)) .reached)) .reached
-      go true a r e rest = sym (ap (λ (x : Walked (Progress S)). x .reached) (stops i s p (leb→le (length s) (p .at) (of-true a))))
+      go true a r e rest = sym (ap (λ (x : Reached (Progress S)). x .reached) (stops i s p (leb→le (length s) (p .at) (of-true a))))
       go false a (accepted q) e rest = rest q
-      go false a (turnedDown n) e rest = sym (stays i s p n (nleb→lt (length s) (p .at) (rw a tt)) e)
+      go false a (refused n) e rest = sym (stays i s p n (nleb→lt (length s) (p .at) (rw a tt)) e)
 
   -- ---- what a refusal means: the end of the bytes before all was complete, or the record where the walk stopped, for its own reason
   abbrev pub Refusal : List ℕ → Progress S → ℕ → Type 0
-  Refusal s p n = ((length s ≤ p .at) × (n ≡ 15)) ⊎ ((p .at < length s) × (R .onRecord s p ≡ turnedDown n))
+  Refusal s p n = ((length s ≤ p .at) × (n ≡ 15)) ⊎ ((p .at < length s) × (R .onRecord s p ≡ refused n))
 
   over-refused : (p : Progress S) (n : ℕ) → over R p .stop ≡ refusedFor n → n ≡ 15
   over-refused p n e = go (R .complete (p .state)) e
@@ -118,7 +119,7 @@ module _ {S : Type 0} (R : Reader S) where
 
 -- ---- where a record ends, if it is accepted; one that is the same in the first K bytes, if it ends there, is accepted in them
 abbrev pub Ends : {S : Type 0} → ℕ → Outcome (Progress S) → Type 0
-Ends n r = Kept (λ q. q .at ≡ n) r
+Ends n r = IfAccepted (λ q. q .at ≡ n) r
 
 pub same-outcome : {S : Type 0} (n K : ℕ) (r t : Outcome (Progress S)) (q : Progress S) → Ends n r → (n ≤ K → t ≡ r) → q .at ≤ K → r ≡ accepted q → t ≡ accepted q
 same-outcome n K r t q a h l e =
@@ -144,7 +145,7 @@ module _ {S : Type 0} (R : Reader S) (L : Local R) where
           → (cond b (over R p) (next p (λ q. walk R k s q) r)) .stop ≡ refusedFor n → Refusal R s ((cond b (over R p) (next p (λ q. walk R k s q) r)) .reached) n
       go true a r f rest d = inl (leb→le (length s) (p .at) (of-true a), over-refused R p n d)
       go false a (accepted q) f rest d = rest q (omega (arith, L .inside s p q f .0)) d
-      go false a (turnedDown m) f rest d = inr (nleb→lt (length s) (p .at) (rw a tt), cc)
+      go false a (refused m) f rest d = inr (nleb→lt (length s) (p .at) (rw a tt), cc)
 
   -- as many turns as there are accepted records, or fewer, accept just so many
   pub turns-records : (k j : ℕ) (s : List ℕ) (p : Progress S) → k + p .records ≤ (walk R j s p) .reached .records → (walk R k s p) .reached .records ≡ k + p .records
@@ -159,17 +160,17 @@ module _ {S : Type 0} (R : Reader S) (L : Local R) where
           → (cond b (over R p) (next p (λ q. walk R k s q) r)) .reached .records ≡ suc k + p .records
       go true r e rest l = let x : ⊥ = omega arith in absurd x
       go false (accepted q) e rest l = let d : q .records ≡ suc (p .records) = L .inside s p q e .2 in rest q (omega arith) ∙ omega arith
-      go false (turnedDown n) e rest l = let x : ⊥ = omega arith in absurd x
+      go false (refused n) e rest l = let x : ⊥ = omega arith in absurd x
 
   -- ---- the bytes up to where a walk comes give the same walk, and end there
   -- from a progress on, with as many turns as bytes are left
-  abbrev Comes : List ℕ → Progress S → Walked (Progress S) → Type 0
+  abbrev Comes : List ℕ → Progress S → Reached (Progress S) → Type 0
   Comes s p F = (p .at ≤ F .reached .at) × ((j K : ℕ) → K ≤ length s → F .reached .at ≡ K → K ≤ p .at + j → walk R j (take K s) p ≡ over R (F .reached))
 
-  comes-here : (s : List ℕ) (p : Progress S) (F : Walked (Progress S)) → F .reached ≡ p → Comes s p F
+  comes-here : (s : List ℕ) (p : Progress S) (F : Reached (Progress S)) → F .reached ≡ p → Comes s p F
   comes-here s p F e = rw e (omega arith, λ j K l a f. stops R j (take K s) p (omega (arith, length-take-le K s l)))
 
-  comes-back : (s : List ℕ) (p q : Progress S) (F : Walked (Progress S)) → R .onRecord s p ≡ accepted q → Comes s q F → Comes s p F
+  comes-back : (s : List ℕ) (p q : Progress S) (F : Reached (Progress S)) → R .onRecord s p ≡ accepted q → Comes s q F → Comes s p F
   comes-back s p q F e rest =
       let d : p .at < q .at = L .inside s p q e .0 in
       (omega (arith, d, rest .0), λ j K l a f. go d (rest .0) K l a j f)
@@ -193,22 +194,7 @@ module _ {S : Type 0} (R : Reader S) (L : Local R) where
   pub accepted-bytes : (s : List ℕ) (x : S) → readAll R (acceptedBytes R s x) x ≡ over R ((readAll R s x) .reached)
   accepted-bytes s x = records-prefix (length s) s x
 
--- ---- what code's answer for one record says of the outcome
-pub after-refused : {A : Type 0} (p q : A) (n : ℕ) (x : Outcome A) → _≡_ {A = Walked A} (record { reached = q; stop = refusedFor n }) (after p x)
-    → (x ≡ turnedDown n) × (q ≡ p)
-after-refused {A} p q n (accepted y) e =
-    let s : refusedFor n ≡ nothing = ap (λ (w : Walked A). w .stop) e in
-    let z : _≡_ {A = ℕ} 0 1 = cc in
-    let i : ⊥ = omega arith in
-    absurd i
-after-refused {A} p q n (turnedDown m) e =
-    let s : refusedFor n ≡ refusedFor m = ap (λ (w : Walked A). w .stop) e in
-    (cc, ap (λ (w : Walked A). w .reached) e)
-
-pub after-accepted : {A : Type 0} (p q : A) (x : Outcome A) → _≡_ {A = Walked A} (record { reached = q; stop = nothing }) (after p x) → x ≡ accepted q
-after-accepted {A} p q (accepted y) e = ap (λ (w : A). accepted w) (sym (ap (λ (w : Walked A). w .reached) e))
-after-accepted {A} p q (turnedDown m) e =
-    let s : nothing ≡ refusedFor m = ap (λ (w : Walked A). w .stop) e in
-    let z : _≡_ {A = ℕ} 0 1 = cc in
-    let i : ⊥ = omega arith in
-    absurd i
+-- ---- what is told tells how far the walk came, and what stopped it
+pub told-refused : {A : Type 0} (r : ℕ) (x : A) (t : Stop) (K n : ℕ) → verdict r x t ≡ refusedAt K n → (K ≡ suc r) × (t ≡ refusedFor n)
+told-refused r x nothing K n e = let z : _≡_ {A = ℕ} 0 1 = cc in let y : ⊥ = omega arith in absurd y
+told-refused r x (refusedFor m) K n e = (cc, cc)

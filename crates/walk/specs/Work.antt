@@ -3,9 +3,9 @@ use mathlib.Core.List.{List, [], _∷_}
 use Prim.Native.Nat.{ℕ, _^_}
 use lib.Dec.{leb, ltb}
 use lib.ListN.{length}
+use Rattle.refusal.specs.Outcome.{Outcome, accepted, unless}
 use Rattle.polynomial.specs.Polynomial.{sumOf}
 use Rattle.record.specs.Record.{whole, numberAt}
-use Rattle.walk.specs.Walk.{Outcome, accepted, unless}
 
 unfoldable pub termAdded : ℕ → List ℕ → ℕ → List ℕ → Outcome (List ℕ)
 termAdded n s at f =

@@ -5,22 +5,22 @@ use mathlib.Core.List.{List, [], _∷_}
 use Prim.Native.Nat.{ℕ, _+_, _^_, _≤_, _<_}
 use lib.Dec.{T, leb, leb→le, ltb, ltb→lt}
 use lib.ListN.{length, take}
+use Rattle.refusal.specs.Outcome.{Outcome, accepted, refused, unless}
 use Rattle.polynomial.specs.Polynomial.{sumOf}
 use Rattle.polynomial.specs.PolynomialLaws.{sum-ordered, sum-below}
 use Rattle.configuration.specs.Configuration.{isPolynomial}
-use Rattle.configuration.specs.FormLaws.{polynomial-below, polynomial-is}
+use Rattle.configuration.specs.LineLaws.{polynomial-below, polynomial-is}
 use Rattle.record.specs.Record.{whole, numberAt}
 use Rattle.record.specs.RecordLaws.{number-take, whole-take}
-use Rattle.walk.specs.Walk.{Outcome, accepted, turnedDown, unless}
 use Rattle.walk.specs.Work.{termAdded}
-use Rattle.walk.specs.WalkLaws.{unless-ind, Kept}
+use Rattle.walk.specs.WalkLaws.{unless-ind, IfAccepted}
 
 -- a term added to a polynomial makes a polynomial, if there is room
 pub term-sum : (n t : ℕ) (f : List ℕ) → t < 2 ^ n → T (leb (length (sumOf (t ∷ []) f)) 64) → T (isPolynomial n f) → T (isPolynomial n (sumOf (t ∷ []) f))
 term-sum n t f h k p = polynomial-is n (sumOf (t ∷ []) f) k (sum-below n (t ∷ []) f (h, tt) (polynomial-below n f p)) (sum-ordered (t ∷ []) f)
 
 module _ (n : ℕ) (s : List ℕ) (at : ℕ) (f : List ℕ) where
-  pub term-ind : (P : Outcome (List ℕ) → Type 0) → ((m : ℕ) → P (turnedDown m))
+  pub term-ind : (P : Outcome (List ℕ) → Type 0) → ((m : ℕ) → P (refused m))
       → (T (whole 4 s at) → numberAt 4 s at < 2 ^ n → T (leb (length (sumOf (numberAt 4 s at ∷ []) f)) 64) → P (accepted (sumOf (numberAt 4 s at ∷ []) f)))
       → P (termAdded n s at f)
   unfolding termAdded
@@ -30,11 +30,11 @@ module _ (n : ℕ) (s : List ℕ) (at : ℕ) (f : List ℕ) where
       yea h (ltb→lt t (2 ^ n) i) j)))
 
   pub term-polynomial : (g : List ℕ) → T (isPolynomial n f) → termAdded n s at f ≡ accepted g → T (isPolynomial n g)
-  term-polynomial g h e = rw e at (term-ind (λ r. Kept (λ g. T (isPolynomial n g)) r) (λ m. tt) (λ i j k. term-sum n (numberAt 4 s at) f j k h))
+  term-polynomial g h e = rw e at (term-ind (λ r. IfAccepted (λ g. T (isPolynomial n g)) r) (λ m. tt) (λ i j k. term-sum n (numberAt 4 s at) f j k h))
 
   -- an accepted term lies in the bytes
   pub term-inside : (g : List ℕ) → termAdded n s at f ≡ accepted g → at + 4 ≤ length s
-  term-inside g e = rw e at (term-ind (λ r. Kept (λ g. at + 4 ≤ length s) r) (λ m. tt) (λ i j k. leb→le (at + 4) (length s) i))
+  term-inside g e = rw e at (term-ind (λ r. IfAccepted (λ g. at + 4 ≤ length s) r) (λ m. tt) (λ i j k. leb→le (at + 4) (length s) i))
 
   pub term-take : (K : ℕ) → K ≤ length s → at + 4 ≤ K → termAdded n (take K s) at f ≡ termAdded n s at f
   unfolding termAdded

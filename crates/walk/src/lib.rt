@@ -3,33 +3,28 @@ use configuration::form::is_term;
 use polynomial::toggle::toggle;
 use record::Mask;
 use record::read_mask;
+use refusal::Objection;
 use refusal::Reason;
 ghost use mathlib.Core.Path.{_≡_};
 ghost use Prim.Native.Nat.{_≤_};
 ghost use lib.ListN.{length, take};
+ghost use Rattle.refusal.specs.Outcome.{after, stopOf};
 ghost use Rattle.polynomial.specs.Polynomial.{Ordered};
-ghost use Rattle.walk.specs.Walk.{stopOf, after};
 ghost use Rattle.walk.specs.Work.{termAdded};
-
-// Whether a record is accepted, or for which reason it is not.
-pub enum Turn {
-    Accepted,
-    Refused(Reason),
-}
 
 // How many terms the work polynomial has after a record, and the answer for the record.
 pub struct Work {
     pub count: usize,
-    pub turn: Turn,
+    pub objection: Objection,
 }
 
 // A record that leaves the work polynomial as it was.
 fn refused(count: usize, reason: Reason) -> Work
-    ensures { λ r. ⌜ r ≡ record { count = count; turn = Turn.Refused reason } ⌝ }
+    ensures { λ r. ⌜ r ≡ record { count = count; objection = Objection.Found reason } ⌝ }
 {
     Work {
         count,
-        turn: Turn::Refused(reason),
+        objection: Objection::Found(reason),
     }
 }
 
@@ -39,7 +34,7 @@ fn refused(count: usize, reason: Reason) -> Work
 pub fn add_term(variables: u32, bytes: &[u8], at: usize, work: &mut [u32], count: usize) -> Work
     requires { ⌜ (length (now work) ≡ 64) × (count ≤ 64) × Ordered (take count (now work)) ⌝ }
     ensures sum { λ r. let f = take count (now (work .entry)) in
-        ⌜ record { reached = take (r .count) (now (work .exit)); stop = stopOf (r .turn) } ≡ after f (termAdded variables (now (bytes .entry)) at f) ⌝ }
+        ⌜ record { reached = take (r .count) (now (work .exit)); stop = stopOf (r .objection) } ≡ after f (termAdded variables (now (bytes .entry)) at f) ⌝ }
     ensures room { λ r. ⌜ r .count ≤ 64 ⌝ }
 {
     let Mask::Whole(mask) = read_mask(bytes, at) else {
@@ -54,6 +49,6 @@ pub fn add_term(variables: u32, bytes: &[u8], at: usize, work: &mut [u32], count
     }
     Work {
         count: sum,
-        turn: Turn::Accepted,
+        objection: Objection::Nothing,
     }
 }

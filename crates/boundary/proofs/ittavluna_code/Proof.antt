@@ -7,14 +7,14 @@ use Rattle.listing.proofs.Writes.{as-text}
 use Rattle.report.specs.Report.{codeOfFile}
 use Rattle.report.specs.declared.Text.{Text}
 use Rattle.report.proofs.Texts.{held-part, text-front}
-use Rattle.boundary.proofs.Fronts.{short-area, line-there}
+use Rattle.report.proofs.Reports.{short-area, whole-text}
 use Rattle.boundary.proofs.ittavluna_code.Statement.{statement}
 use Rattle.boundary.proofs.ittavluna_code.Tie as tie
 
 returns : tie.Need-returns
 returns c =
     let a = c .before .before .before .args in
-    short-area (a .problem .now) (a .out .now) (omega (arith, c .if1 .taken))
+    short-area 64 (codeOfFile (a .problem .now)) (a .out .now) (omega (arith, c .if1 .taken))
 
 code-file-requires : tie.Need-code-file-requires
 code-file-requires c κs = search needs
@@ -45,7 +45,7 @@ returns-2 c =
     let h = k .held in
     let p = c .before .before .put-bytes in
     let x = codeOfFile (a .problem .now) in
-    line-there (a .problem .now) (a .out .now) (p .last .0) (p .result) (omega (arith, f .before .if1 .left))
+    whole-text 64 x (a .out .now) (p .last .0) (p .result) (omega (arith, f .before .if1 .left))
     (as-text (a .out .now) 0 (take (h .result) (l .bytes)) x (p .last .0) (p .result)
     (held-part (l .size) (h .result) (l .bytes) (h .ensures .0) (h .ensures .1)
     ∙ (ap (λ (t : Text). take (t .size) (t .bytes)) (f .code-file .ensures) ∙ text-front x)) (p .ensures))

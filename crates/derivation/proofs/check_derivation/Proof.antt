@@ -1,150 +1,188 @@
--- `check_derivation` meets its contract: the areas are tested in the definition's order, and nothing is written where they are refused; the records are read
--- through the index in turn, which stands for the areas themselves, and the rows that they leave are put in turn.
-use mathlib.Core.Path.{_≡_, sym, ap, subst, _∙_}
+-- `check_derivation` meets its contract. The invariant: what is left to walk from the progress on gives the whole walk.
+use mathlib.Core.Path.{_≡_, refl, sym, _∙_}
 use mathlib.Core.List.{List}
-use Prim.Native.Nat.{ℕ}
-use lib.Dec.{T}
+use Prim.Native.Nat.{ℕ, _-_}
+use native.Mathlib.Omega.{arith}
+use lib.ListN.{length, replicate}
 use denote.Ref.{now}
-use borrow.Author.Tests.{not-true, not-false}
 use borrow.Author.Needs.{needs}
-use Rattle.run.specs.Boolean.{of-true}
-use Rattle.configuration.specs.FormLaws.{sized-not, sized-is}
-use Rattle.configuration.specs.Memory.{Memory, memoryOf, wellFormed}
-use Rattle.configuration.specs.Index.{indexedOf}
-use Rattle.configuration.specs.TurnLaws.{turn-memory, turn-kept}
-use Rattle.derivation.specs.Derivation.{Left, leftOf, checked}
-use Rattle.derivation.specs.DerivationLaws.{check-refused-1, check-refused-2, check-is}
-use Rattle.derivation.specs.declared.Report.{Report}
+use Rattle.table.specs.Rows.{Table, linesOf}
+use Rattle.derivation.specs.DerivationLaws.{walked, check-is}
+use Rattle.derivation.proofs.Loops.{Walks, starts, asks, goes-on, fewer, refused-count, refused-there, ordered-there, ends-there}
 use Rattle.derivation.proofs.check_derivation.Statement.{statement}
 use Rattle.derivation.proofs.check_derivation.Tie as tie
 
-abbrev bytes : tie.Start → List ℕ
-bytes s = now (s .args .bytes)
+abbrev Inv-loop : tie.InvT-loop
+Inv-loop bytes n lines order₀ terms₀ weights₀ counts₀ first₀ work₀ p₀ order terms weights counts first work p =
+    let L = linesOf (record { lines = lines; order = order₀; terms = terms₀; weights = weights₀; counts = counts₀ }) in
+    Walks n bytes (walked bytes n L) p first work (record { lines = p .lines; order = order; terms = terms; weights = weights; counts = counts })
+    × (length order ≡ length order₀) × (length terms ≡ length terms₀) × (length weights ≡ length weights₀) × (length counts ≡ length counts₀)
 
-abbrev memory : tie.Start → Memory
-memory s = memoryOf (s .args .head) (now (s .args .terms)) (now (s .args .weights)) (now (s .args .counts))
+abbrev μ-loop : tie.MeasureT-loop
+μ-loop bytes n lines order₀ terms₀ weights₀ counts₀ first₀ work₀ p₀ order terms weights counts first work p = length bytes - p .records
 
--- what a report leaves where nothing is written
-abbrev left-in : tie.Start → Report → Left
-left-in s r = leftOf (memoryOf (r .head) (now (s .args .terms)) (now (s .args .weights)) (now (s .args .counts))) (r .answer)
+-- the table before the first record, before any record, and after it
+abbrev table : tie.Start Inv-loop μ-loop → Table
+table s =
+    let a = s .args in
+    record { lines = a .lines; order = now (a .order); terms = now (a .terms); weights = now (a .weights); counts = now (a .counts) }
 
--- where the areas are known to be well formed
-well : (c : tie.Else4) → T (wellFormed (memory (c .before .before .before .before .before .before .before .before .before .before .before)))
-well c = of-true (sym (c .before .well-formed .ensures) ∙ not-false (c .before .well-formed .result) (c .if4 .left))
+abbrev now-at : tie.At-loop Inv-loop μ-loop → Table
+now-at l = record { lines = l .loop .p .lines; order = l .loop .order; terms = l .loop .terms; weights = l .loop .weights; counts = l .loop .counts }
 
-turned-away-requires : tie.Need-turned-away-requires
-turned-away-requires c κs = search needs
+abbrev after-it : tie.After-on-record Inv-loop μ-loop → Table
+after-it k =
+    let r = k .on-record in
+    record {
+      lines = r .result .progress .lines;
+      order = r .last .1 .1 .1 .1 .1 .0;
+      terms = r .last .1 .1 .1 .1 .1 .1 .0;
+      weights = r .last .1 .1 .1 .1 .1 .1 .1 .0;
+      counts = r .last .1 .1 .1 .1 .1 .1 .1 .1 .0;
+    }
 
-returns : tie.Need-returns
-returns c =
-    let s = c .before .before .before .before .before in
-    let m = memory s in
-    ap (left-in s) (c .turned-away .ensures) ∙ sym (check-refused-1 (bytes s) m (sized-not m (λ k. c .before .if1 .taken (k .0))))
+opening-requires : tie.Need-opening-requires Inv-loop μ-loop
+opening-requires c κs = search needs
 
-turned-away-requires-2 : tie.Need-turned-away-requires-2
-turned-away-requires-2 c κs = search needs
-
-returns-2 : tie.Need-returns-2
-returns-2 c =
-    let s = c .before .before .before .before .before .before in
-    let m = memory s in
-    ap (left-in s) (c .turned-away2 .ensures) ∙ sym (check-refused-1 (bytes s) m (sized-not m (λ k. c .before .if2 .taken (k .1))))
-
-turned-away-requires-3 : tie.Need-turned-away-requires-3
-turned-away-requires-3 c κs = search needs
-
-returns-3 : tie.Need-returns-3
-returns-3 c =
+loop-holds : tie.Need-loop-holds Inv-loop μ-loop
+loop-holds c =
     let s = c .before .before .before .before .before .before .before in
-    let m = memory s in
-    ap (left-in s) (c .turned-away3 .ensures) ∙ sym (check-refused-1 (bytes s) m (sized-not m (λ k. c .before .if3 .taken (k .2))))
-
-well-formed-requires : tie.Need-well-formed-requires
-well-formed-requires c κs = search needs
-
-turned-away-requires-4 : tie.Need-turned-away-requires-4
-turned-away-requires-4 c κs = search needs
-
-same-length : tie.Need-same-length
-same-length c = search needs
-
-same-length-2 : tie.Need-same-length-2
-same-length-2 c = search needs
-
-same-length-3 : tie.Need-same-length-3
-same-length-3 c = search needs
-
-returns-4 : tie.Need-returns-4
-returns-4 c =
-    let s = c .before .before .before .before .before .before .before .before .before .before .before .before in
-    let m = memory s in
-    ap (left-in s) (c .turned-away4 .ensures) ∙ sym (check-refused-2 (bytes s) m
-    (of-true (sized-is m (c .before .before .before .before .before .before .before .before .if1 .left) (c .before .before .before .before .before .before .before .if2 .left)
-    (c .before .before .before .before .before .before .if3 .left)))
-    (sym (c .before .before .well-formed .ensures) ∙ not-true (c .before .before .well-formed .result) (c .before .if4 .taken)))
-
-in-turn-requires : tie.Need-in-turn-requires
-in-turn-requires c κs = search needs
-
-slice-aggregate-read-records : tie.Need-slice-aggregate-read-records
-slice-aggregate-read-records c = search needs
-
-read-records-requires : tie.Need-read-records-requires
-read-records-requires c κs =
-    let a = c .before .before .before .before .before .before .before .before .before .before .before .before .before .before .before .before .before .args in
-    let w = well (c .before .before .before .before .before .before) in
-    rw (c .before .before .before .before .in-turn .ensures) (
-      turn-kept (a .head) (now (a .terms)) (now (a .weights)) (now (a .counts)) w,
-      subst (λ (m : Memory). T (wellFormed m)) (sym (turn-memory (a .head) (now (a .terms)) (now (a .weights)) (now (a .counts)) w)) w,
+    let a = s .args in
+    let zeros : List ℕ = replicate 64 0 in
+    rw (c .opening .ensures) (
+      starts (a .variables) (now (a .bytes)) (a .lines) zeros zeros (table s) (s .pre .0) (s .pre .1) refl refl,
+      refl,
+      refl,
+      refl,
+      refl,
     )
 
-settle-requires : tie.Need-settle-requires
-settle-requires c κs =
-    let k = c .before .before .before .before .before .before .before .before .before .read-records .ensures .1 in
-    (k .once, k .terms-length, k .weights-length, k .counts-length)
+slice-aggregate-on-record : tie.Need-slice-aggregate-on-record Inv-loop μ-loop
+slice-aggregate-on-record c = sym (c .before .before .before .loop .inv .0 .0 .first-area)
 
-same-length-4 : tie.Need-same-length-4
-same-length-4 c = search needs
+slice-aggregate-on-record-2 : tie.Need-slice-aggregate-on-record-2 Inv-loop μ-loop
+slice-aggregate-on-record-2 c = sym (c .before .before .before .before .loop .inv .0 .0 .area)
 
-same-length-5 : tie.Need-same-length-5
+on-record-requires : tie.Need-on-record-requires Inv-loop μ-loop
+on-record-requires c κs =
+    let s = c .before .before .before .before .before .before .before .before .before .before .before .before .before .before .before .before in
+    let l = c .before .before .before .before .before .before .before .before in
+    asks (s .args .variables) (now (s .args .bytes)) _ (l .loop .p) (l .loop .first) (l .loop .work) (now-at l) (l .loop .inv .0) (c .before .before .before .before .before .before .if1 .taken)
+
+enum-known-objection : tie.Need-enum-known-objection Inv-loop μ-loop
+enum-known-objection c = search needs
+
+add-t32 : tie.Need-add-t32 Inv-loop μ-loop
+add-t32 c =
+    let k = c .before .before .before .before .before .before .before .before .before .before .before .before .before .before in
+    let l = c .before .before .before .before .before .before .before .before .before .before .before .before .before .before .before .before .before .before .before .before .before .before .before in
+    let s = c .before .before .before .before .before .before .before .before .before .before .before .before .before .before .before .before .before .before .before .before .before .before .before .before .before .before .before .before .before .before .before in
+    let d = c .before .before .objection in
+    let h = refused-count (s .args .variables) (now (s .args .bytes)) _ (l .loop .p) (l .loop .first) (l .loop .work) (now-at l) (l .loop .inv .0)
+    (c .before .before .before .before .before .before .before .before .before .before .before .before .before .before .before .before .before .before .before .before .before .if1 .taken) (k .on-record .result) (k .on-record .last .1 .1 .1 .0) (k .on-record .last .1 .1 .1 .1 .0) (after-it k) (k .on-record .ensures (l .loop .inv .0 .0))
+    (d .given .0 .0) (d .given .1) in
+    record { fits = omega (arith, h, s .good .0) }
+
+same-length : tie.Need-same-length Inv-loop μ-loop
+same-length c = c .before .before .before .before .before .before .before .before .before .before .before .before .before .before .on-record .kept .1 .1 .1 .1 .1 .0 ∙ c .before .before .before .before .before .before .before .before .before .before .before .before .before .before .before .before .before .before .before .before .before .before .before .loop .inv .1
+
+same-length-2 : tie.Need-same-length-2 Inv-loop μ-loop
+same-length-2 c = c .before .before .before .before .before .before .before .before .before .before .before .before .before .before .on-record .kept .1 .1 .1 .1 .1 .1 .0 ∙ c .before .before .before .before .before .before .before .before .before .before .before .before .before .before .before .before .before .before .before .before .before .before .before .loop .inv .2
+
+same-length-3 : tie.Need-same-length-3 Inv-loop μ-loop
+same-length-3 c = c .before .before .before .before .before .before .before .before .before .before .before .before .before .before .on-record .kept .1 .1 .1 .1 .1 .1 .1 .0 ∙ c .before .before .before .before .before .before .before .before .before .before .before .before .before .before .before .before .before .before .before .before .before .before .before .loop .inv .3
+
+same-length-4 : tie.Need-same-length-4 Inv-loop μ-loop
+same-length-4 c = c .before .before .before .before .before .before .before .before .before .before .before .before .before .before .on-record .kept .1 .1 .1 .1 .1 .1 .1 .1 .0 ∙ c .before .before .before .before .before .before .before .before .before .before .before .before .before .before .before .before .before .before .before .before .before .before .before .loop .inv .4
+
+returns : tie.Need-returns Inv-loop μ-loop
+returns c =
+    let k = c .before .before .before .before .before .before .before .before .before .before .before .before .before .before in
+    let l = c .before .before .before .before .before .before .before .before .before .before .before .before .before .before .before .before .before .before .before .before .before .before .before in
+    let s = c .before .before .before .before .before .before .before .before .before .before .before .before .before .before .before .before .before .before .before .before .before .before .before .before .before .before .before .before .before .before .before in
+    let d = c .before .before .objection in
+    let e = refused-there (s .args .variables) (now (s .args .bytes)) _ (l .loop .p) (l .loop .first) (l .loop .work) (now-at l) (l .loop .inv .0)
+    (c .before .before .before .before .before .before .before .before .before .before .before .before .before .before .before .before .before .before .before .before .before .if1 .taken) (k .on-record .result) (k .on-record .last .1 .1 .1 .0) (k .on-record .last .1 .1 .1 .1 .0) (after-it k) (k .on-record .ensures (l .loop .inv .0 .0))
+    (d .given .0 .0) (d .given .1) in
+    (e ∙ sym (check-is (now (s .args .bytes)) (s .args .variables) (linesOf (table s))), k .on-record .ensures (l .loop .inv .0 .0) .1 .fits)
+
+enum-told : tie.Need-enum-told Inv-loop μ-loop
+enum-told c = search needs
+
+loop-less : tie.Need-loop-less Inv-loop μ-loop
+loop-less c =
+    let k = c .before .before .before .before .before .before .before .before .before .before .before .before in
+    let l = c .before .before .before .before .before .before .before .before .before .before .before .before .before .before .before .before .before .before .before .before .before in
+    let s = c .before .before .before .before .before .before .before .before .before .before .before .before .before .before .before .before .before .before .before .before .before .before .before .before .before .before .before .before .before in
+    fewer (s .args .variables) (now (s .args .bytes)) _ (l .loop .p) (l .loop .first) (l .loop .work) (now-at l) (l .loop .inv .0)
+    (c .before .before .before .before .before .before .before .before .before .before .before .before .before .before .before .before .before .before .before .if1 .taken) (k .on-record .result) (k .on-record .last .1 .1 .1 .0) (k .on-record .last .1 .1 .1 .1 .0) (after-it k) (k .on-record .ensures (l .loop .inv .0 .0))
+    (c .enum-told .given .1)
+
+loop-again : tie.Need-loop-again Inv-loop μ-loop
+loop-again c =
+    let k = c .before .before .before .before .before .before .before .before .before .before .before .before in
+    let l = c .before .before .before .before .before .before .before .before .before .before .before .before .before .before .before .before .before .before .before .before .before in
+    let s = c .before .before .before .before .before .before .before .before .before .before .before .before .before .before .before .before .before .before .before .before .before .before .before .before .before .before .before .before .before in
+    let again = goes-on (s .args .variables) (now (s .args .bytes)) _ (l .loop .p) (l .loop .first) (l .loop .work) (now-at l) (l .loop .inv .0)
+    (c .before .before .before .before .before .before .before .before .before .before .before .before .before .before .before .before .before .before .before .if1 .taken) (k .on-record .result) (k .on-record .last .1 .1 .1 .0) (k .on-record .last .1 .1 .1 .1 .0) (after-it k) (k .on-record .ensures (l .loop .inv .0 .0))
+    (c .enum-told .given .1) in
+    (again, search needs, search needs, search needs, search needs)
+
+finish-requires : tie.Need-finish-requires Inv-loop μ-loop
+finish-requires c κs =
+    let l = c .before .before .before .before .before .before in
+    let s = c .before .before .before .before .before .before .before .before .before .before .before .before .before .before in
+    let h = c .before .before .before .before .if1 .left in (
+      l .loop .inv .0 .0 .fits,
+      ordered-there (s .args .variables) (now (s .args .bytes)) _ (l .loop .p) (l .loop .first) (l .loop .work) (now-at l) (l .loop .inv .0) h,
+      omega (arith, l .loop .inv .0 .0 .counted, l .loop .inv .0 .2, s .good .0),
+    )
+
+same-length-5 : tie.Need-same-length-5 Inv-loop μ-loop
 same-length-5 c = search needs
 
-same-length-6 : tie.Need-same-length-6
+same-length-6 : tie.Need-same-length-6 Inv-loop μ-loop
 same-length-6 c = search needs
 
-returns-5 : tie.Need-returns-5
-returns-5 c =
-    let r = c .before .before .before .before .before .before .before .before .before .before .before .before .before .before .before in
-    let i = r .before .before .before .before .before in
-    let s = i .before .before .before .before .before .before .before .before .before .before .before .before .before in
-    let a = s .args in
-    let w = well (i .before .before) in
-    let e = c .before .before .before .before .before .settle .ensures in
-    let t : indexedOf (a .head) (i .in-turn .result) (now (a .terms)) (now (a .weights)) (now (a .counts)) ≡ memory s =
-    rw (i .in-turn .ensures) (turn-memory (a .head) (now (a .terms)) (now (a .weights)) (now (a .counts)) w) in
-    rw (e .0, e .1, e .2) (r .read-records .ensures .0 ∙ ap (checked (bytes s)) t ∙ sym (check-is (bytes s) (memory s) w))
+same-length-7 : tie.Need-same-length-7 Inv-loop μ-loop
+same-length-7 c = search needs
+
+same-length-8 : tie.Need-same-length-8 Inv-loop μ-loop
+same-length-8 c = search needs
+
+returns-2 : tie.Need-returns-2 Inv-loop μ-loop
+returns-2 c =
+    let l = c .before .before .before .before .before .before .before in
+    let s = c .before .before .before .before .before .before .before .before .before .before .before .before .before .before .before in
+    let h = c .before .before .before .before .before .if1 .left in
+    let r = c .finish in
+    let e = ends-there (s .args .variables) (now (s .args .bytes)) _ (l .loop .p) (l .loop .first) (l .loop .work) (now-at l) (l .loop .inv .0) h (r .result) (r .ensures) in
+    (e ∙ sym (check-is (now (s .args .bytes)) (s .args .variables) (linesOf (table s))), l .loop .inv .0 .0 .fits)
 
 pub check-derivation-spec : {M : Type 1} → statement M
 check-derivation-spec =
     tie.close
     (tie.spec
-    turned-away-requires
-    returns
-    turned-away-requires-2
-    returns-2
-    turned-away-requires-3
-    returns-3
-    well-formed-requires
-    turned-away-requires-4
+    Inv-loop
+    μ-loop
+    opening-requires
+    loop-holds
+    slice-aggregate-on-record
+    slice-aggregate-on-record-2
+    on-record-requires
+    enum-known-objection
+    add-t32
     same-length
     same-length-2
     same-length-3
-    returns-4
-    in-turn-requires
-    slice-aggregate-read-records
-    read-records-requires
-    settle-requires
     same-length-4
+    returns
+    enum-told
+    loop-less
+    loop-again
+    finish-requires
     same-length-5
     same-length-6
-    returns-5)
+    same-length-7
+    same-length-8
+    returns-2)

@@ -1,22 +1,21 @@
--- `degree_of` meets its contract: the first number of the first line's row has the largest degree.
+-- `degree_of` meets its contract: the first term of the first line has the largest degree.
 use mathlib.Core.Path.{_∙_}
 use native.Mathlib.Omega.{arith}
 use denote.Ref.{now}
 use borrow.Author.Needs.{needs}
-use Rattle.configuration.specs.Index.{indexedOf, arranged}
-use Rattle.configuration.specs.MemoryLaws.{well-formed, formed-parts}
-use Rattle.derivation.proofs.Degrees.{no-lines, some-lines, first-within, first-term}
+use Rattle.table.specs.Rows.{Table}
+use Rattle.derivation.proofs.Degrees.{no-lines, first-within, first-degree}
 use Rattle.derivation.proofs.degree_of.Statement.{statement}
 use Rattle.derivation.proofs.degree_of.Tie as tie
 
+abbrev table : tie.Start → Table
+table s = let a = s .args in record { lines = a .lines; order = now (a .order); terms = now (a .terms); weights = now (a .weights); counts = now (a .counts) }
+
 returns : tie.Need-returns
-returns c =
-    let a = c .before .before .before .before .before .args in
-    let is = now (a .index) in
-    no-lines (a .head .variables) (arranged 64 is (now (a .terms))) (arranged 1 is (now (a .weights))) (arranged 1 is (now (a .counts))) (a .head .lines) (c .if1 .taken)
+returns c = no-lines (table (c .before .before .before .before)) (c .if1 .taken)
 
 row-at-requires : tie.Need-row-at-requires
-row-at-requires c κs = omega (arith, c .before .before .before .before .before .pre .0 .entries)
+row-at-requires c κs = omega (arith, c .before .before .before .before .pre .0 .order-length)
 
 mul-degree : tie.Need-mul-degree
 mul-degree c = search needs
@@ -26,22 +25,16 @@ mul-degree-2 c = search needs
 
 shared-slice-read-degree : tie.Need-shared-slice-read-degree
 shared-slice-read-degree c =
-    let s = c .before .before .before .before .before .before .before in
-    let a = s .args in
-    rw (c .before .row-at .ensures) (first-within (a .head) (now (a .index)) (now (a .terms)) (now (a .weights)) (now (a .counts)) (s .pre .0))
+    let s = c .before .before .before .before .before .before in
+    rw (c .before .row-at .ensures) (first-within (table s) (s .pre .0))
 
 degree-requires : tie.Need-degree-requires
 degree-requires c κs = search needs
 
 returns-2 : tie.Need-returns-2
 returns-2 c =
-    let s = c .before .before .before .before .before .before .before .before in
-    let a = s .args in
-    let is = now (a .index) in
-    let m = indexedOf (a .head) is (now (a .terms)) (now (a .weights)) (now (a .counts)) in
-    c .degree .ensures ∙ rw (c .before .before .row-at .ensures, first-term (a .head) is (now (a .terms)) (now (a .weights)) (now (a .counts)) (s .pre .0))
-    (some-lines (a .head .variables) (m .terms) (m .weights) (m .counts) (a .head .lines) (c .before .before .before .if1 .left)
-    (formed-parts 128 m (well-formed m (s .pre .1)) .fit))
+    let s = c .before .before .before .before .before .before .before in
+    c .degree .ensures ∙ rw (c .before .before .row-at .ensures) (first-degree (table s) (s .pre .0) (omega (arith, c .before .before .before .if1 .left)) (s .pre .1))
 
 pub degree-of-spec : {M : Type 1} → statement M
 degree-of-spec =

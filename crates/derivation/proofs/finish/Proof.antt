@@ -14,7 +14,7 @@ add-t8 : tie.Need-add-t8
 add-t8 c = search needs
 
 returns : tie.Need-returns
-returns c fs us =
+returns c =
     let p = c .before .before .before .before .before .before .args .p in
     rw (not-true (p .closed) (c .before .if1 .taken), add-one (p .records))
 
@@ -22,7 +22,7 @@ degree-of-requires : tie.Need-degree-of-requires
 degree-of-requires c κs = search needs
 
 returns-2 : tie.Need-returns-2
-returns-2 c fs us =
+returns-2 c =
     let p = c .before .before .before .before .before .before .before .args .p in
     rw (not-false (p .closed) (c .before .before .if1 .left), toZ-ofZ {w = w64} {z = p .claim} (record { sfits = search needs }))
     (ap (λ (d : ℕ). confirmed (p .claim) d) (c .before .degree-of .ensures))

@@ -1,40 +1,100 @@
 -- `on_record` meets its contract: each kind is the record of its letter, and any other is misplaced.
-use mathlib.Core.Path.{sym, ap, _∙_}
+use mathlib.Core.Path.{_≡_, sym, ap, _∙_}
+use mathlib.Core.List.{List}
+use Prim.Native.Nat.{ℕ}
 use denote.Ref.{now}
 use borrow.Author.Needs.{needs}
-use Rattle.derivation.proofs.Entries.{turned-down}
+use Rattle.refusal.specs.Outcome.{Outcome, after}
 use Rattle.refusal.specs.declared.Reason.the-variants.{Misplaced}
+use Rattle.table.specs.Rows.{Table}
 use Rattle.derivation.specs.Derivation.{State, onRecord}
-use Rattle.derivation.specs.Held.{progressOf}
-use Rattle.derivation.proofs.Letters.{is-term, is-choice, is-sum, is-prod, is-claim, is-plain, is-signed, is-none}
+use Rattle.derivation.specs.Held.{progressIn, leftIn, Held}
+use Rattle.derivation.specs.declared.Kind.{Kind}
+use Rattle.derivation.specs.declared.Recorded.{Recorded}
+use Rattle.derivation.proofs.Entries.{turned-down}
+use Rattle.derivation.proofs.Letters.{onKind, is-kind}
 use Rattle.derivation.proofs.on_record.Statement.{statement}
 use Rattle.walk.specs.Walk as W
+use Rattle.derivation.specs.declared.Kind.the-variants as K
 use Rattle.derivation.proofs.on_record.Tie as tie
 
-abbrev progress : tie.Start → W.Progress State
-progress s = let a = s .args in progressOf (a .p) (now (a .first)) (now (a .work)) (now (a .index)) (now (a .terms)) (now (a .weights)) (now (a .counts))
+abbrev table : tie.Start → Table
+table s =
+    let a = s .args in
+    record { lines = a .p .lines; order = now (a .order); terms = now (a .terms); weights = now (a .weights); counts = now (a .counts) }
 
-shared-slice-read-kind : tie.Need-shared-slice-read-kind
-shared-slice-read-kind c = search needs
+abbrev progress : tie.Start → W.Progress State
+progress s = progressIn (s .args .p) (now (s .args .first)) (now (s .args .work)) (table s)
+
+-- what a record of a kind does
+abbrev kinds : tie.After-kind-of → Kind → Outcome (W.Progress State)
+kinds k = let s = k .before .before .before .before .before .before .before .before in onKind (s .args .variables) (now (s .args .bytes)) (progress s)
+
+abbrev records : tie.After-kind-of → Outcome (W.Progress State)
+records k = let s = k .before .before .before .before .before .before .before .before in onRecord (s .args .variables) (now (s .args .bytes)) (progress s)
+
+of-kind : (k : tie.After-kind-of) (x : Kind) → k .kind-of .result ≡ x → records k ≡ kinds k x
+of-kind k x e =
+    let s = k .before .before .before .before .before .before .before .before in
+    is-kind (s .args .variables) (now (s .args .bytes)) (progress s) x (sym (k .kind-of .ensures) ∙ e)
+
+as-kind : (k : tie.After-kind-of) (x : Kind) → k .kind-of .result ≡ x → (r : Recorded) (gs vs : List ℕ) (u : Table)
+    → (leftIn r gs vs u ≡ after (progress (k .before .before .before .before .before .before .before .before)) (kinds k x)) × Held (r .progress) gs vs u
+    → (leftIn r gs vs u ≡ after (progress (k .before .before .before .before .before .before .before .before)) (records k)) × Held (r .progress) gs vs u
+as-kind k x e r gs vs u d = (d .0 ∙ ap (after (progress (k .before .before .before .before .before .before .before .before))) (sym (of-kind k x e)), d .1)
+
+shared-slice-read-kind-of : tie.Need-shared-slice-read-kind-of
+shared-slice-read-kind-of c = search needs
+
+kind-of-requires : tie.Need-kind-of-requires
+kind-of-requires c κs = search needs
+
+enum-told : tie.Need-enum-told
+enum-told c = search needs
 
 on-term-requires : tie.Need-on-term-requires
 on-term-requires c κs = search needs
+
+enum-told-2 : tie.Need-enum-told-2
+enum-told-2 c = search needs
+
+on-choice-requires : tie.Need-on-choice-requires
+on-choice-requires c κs = search needs
+
+enum-known-kind : tie.Need-enum-known-kind
+enum-known-kind c = search needs
+
+on-step-requires : tie.Need-on-step-requires
+on-step-requires c κs = search needs
+
+enum-told-3 : tie.Need-enum-told-3
+enum-told-3 c = search needs
+
+on-claim-requires : tie.Need-on-claim-requires
+on-claim-requires c κs = search needs
+
+enum-known-kind-2 : tie.Need-enum-known-kind-2
+enum-known-kind-2 c = search needs
+
+on-mode-requires : tie.Need-on-mode-requires
+on-mode-requires c κs = search needs
+
+enum-told-4 : tie.Need-enum-told-4
+enum-told-4 c = search needs
+
+refused-requires : tie.Need-refused-requires
+refused-requires c κs = search needs
 
 same-length : tie.Need-same-length
 same-length c = search needs
 
 returns : tie.Need-returns
-returns c =
-    let s = c .before .before .before .before .before .before .before .before .before .before .before .before in
+returns c held =
+    let k = c .before .before .before .before .before .before in
+    let s = c .before .before .before .before .before .before .before .before .before .before .before .before .before .before in
     let a = s .args in
-    let e = is-term (a .p .head .variables) (now (a .bytes)) (progress s) (c .before .before .before .before .if1 .taken) in
-    let r = c .before .before .on-term in (
-      r .ensures .0 (now (a .first)) (now (a .index)) (now (a .terms)) (now (a .weights)) (now (a .counts)) (s .pre .1) ∙ ap (W.after (progress s)) (sym e),
-      r .ensures .1 (now (a .first)) (now (a .index)) (now (a .terms)) (now (a .weights)) (now (a .counts)) (s .pre .1),
-    )
-
-on-choice-requires : tie.Need-on-choice-requires
-on-choice-requires c κs = search needs
+    let r = c .before .before .on-term in
+    as-kind k K.Term (c .before .before .before .before .enum-told .given .1) (r .result) _ _ (table s) (r .ensures (now (a .first)) (table s) held)
 
 same-length-2 : tie.Need-same-length-2
 same-length-2 c = search needs
@@ -43,17 +103,11 @@ same-length-3 : tie.Need-same-length-3
 same-length-3 c = search needs
 
 returns-2 : tie.Need-returns-2
-returns-2 c =
-    let s = c .before .before .before .before .before .before .before .before .before .before .before .before .before .before in
-    let a = s .args in
-    let e = is-choice (a .p .head .variables) (now (a .bytes)) (progress s) (c .before .before .before .before .before .if2 .taken) in
-    let r = c .before .before .on-choice in (
-      r .ensures .0 (now (a .index)) (now (a .terms)) (now (a .weights)) (now (a .counts)) (s .pre .1) ∙ ap (W.after (progress s)) (sym e),
-      r .ensures .1 (now (a .index)) (now (a .terms)) (now (a .weights)) (now (a .counts)) (s .pre .1),
-    )
-
-on-step-requires : tie.Need-on-step-requires
-on-step-requires c κs = search needs
+returns-2 c held =
+    let k = c .before .before .before .before .before .before .before in
+    let s = c .before .before .before .before .before .before .before .before .before .before .before .before .before .before .before in
+    let r = c .before .before .on-choice in
+    as-kind k K.Choice (c .before .before .before .before .before .enum-told2 .given .1) (r .result) _ _ (table s) (r .ensures (table s) held)
 
 same-length-4 : tie.Need-same-length-4
 same-length-4 c = search needs
@@ -74,18 +128,18 @@ same-length-9 : tie.Need-same-length-9
 same-length-9 c = search needs
 
 returns-3 : tie.Need-returns-3
-returns-3 c =
-    let s = c .before .before .before .before .before .before .before .before .before .before .before .before .before .before .before .before .before .before .before .before .before .before .before .before in
-    let a = s .args in
-    let e = is-sum (a .p .head .variables) (now (a .bytes)) (progress s)
-    (c .before .before .before .before .before .before .before .before .before .before .before .before .before .before .if3 .taken) in
-    let r = c .before .before .before .before .before .before .before .on-step in (
-      r .ensures .0 ∙ ap (W.after (progress s)) (sym e),
-      r .ensures .1,
-    )
-
-on-step-requires-2 : tie.Need-on-step-requires-2
-on-step-requires-2 c κs = search needs
+returns-3 c held =
+    let k = c .before .before .before .before .before .before .before .before .before .before .before .before .before .before .before .before .before in
+    let r = c .before .before .before .before .before .before .before .on-step in
+    let d = c .before .before .before .before .before .before .before .before .before .before .before .before .before .before .before .kind in
+    let u : Table = record {
+      lines = r .result .progress .lines;
+      order = r .last .1 .1 .1 .1 .0;
+      terms = r .last .1 .1 .1 .1 .1 .0;
+      weights = r .last .1 .1 .1 .1 .1 .1 .0;
+      counts = r .last .1 .1 .1 .1 .1 .1 .1 .0;
+    } in
+    as-kind k (K.Step (d .given .0 .0)) (d .given .1) (r .result) _ _ u (r .ensures held)
 
 same-length-10 : tie.Need-same-length-10
 same-length-10 c = search needs
@@ -99,108 +153,54 @@ same-length-12 c = search needs
 same-length-13 : tie.Need-same-length-13
 same-length-13 c = search needs
 
-same-length-14 : tie.Need-same-length-14
-same-length-14 c = search needs
-
-same-length-15 : tie.Need-same-length-15
-same-length-15 c = search needs
-
 returns-4 : tie.Need-returns-4
-returns-4 c =
-    let s = c .before .before .before .before .before .before .before .before .before .before .before .before .before .before .before .before .before .before .before .before .before .before .before .before .before in
+returns-4 c held =
+    let k = c .before .before .before .before .before .before .before in
+    let s = c .before .before .before .before .before .before .before .before .before .before .before .before .before .before .before in
     let a = s .args in
-    let e = is-prod (a .p .head .variables) (now (a .bytes)) (progress s)
-    (c .before .before .before .before .before .before .before .before .before .before .before .before .before .before .if4 .taken) in
-    let r = c .before .before .before .before .before .before .before .on-step2 in (
-      r .ensures .0 ∙ ap (W.after (progress s)) (sym e),
-      r .ensures .1,
-    )
-
-on-claim-requires : tie.Need-on-claim-requires
-on-claim-requires c κs = search needs
-
-same-length-16 : tie.Need-same-length-16
-same-length-16 c = search needs
-
-same-length-17 : tie.Need-same-length-17
-same-length-17 c = search needs
-
-same-length-18 : tie.Need-same-length-18
-same-length-18 c = search needs
-
-same-length-19 : tie.Need-same-length-19
-same-length-19 c = search needs
-
-same-length-20 : tie.Need-same-length-20
-same-length-20 c = search needs
-
-same-length-21 : tie.Need-same-length-21
-same-length-21 c = search needs
+    let r = c .on-claim in
+    as-kind k K.Claim (c .before .before .before .before .before .enum-told3 .given .1) (r .result) _ _ (table s) (r .ensures (now (a .first)) (now (a .work)) held)
 
 returns-5 : tie.Need-returns-5
-returns-5 c =
-    let s = c .before .before .before .before .before .before .before .before .before .before .before .before .before .before .before .before .before .before .before in
+returns-5 c held =
+    let k = c .before .before .before .before in
+    let s = c .before .before .before .before .before .before .before .before .before .before .before .before in
     let a = s .args in
-    let e = is-claim (a .p .head .variables) (now (a .bytes)) (progress s) (c .before .before .before .before .before .before .before .if5 .taken) in
-    let r = c .on-claim in (
-      r .ensures .0 ∙ ap (W.after (progress s)) (sym e),
-      r .ensures .1,
-    )
-
-on-mode-requires : tie.Need-on-mode-requires
-on-mode-requires c κs = search needs
+    let r = c .on-mode in
+    let d = c .before .before .kind2 in
+    as-kind k (K.Start (d .given .0 .0)) (d .given .1) (r .result) _ _ (table s) (r .ensures (now (a .first)) (now (a .work)) (table s) held)
 
 returns-6 : tie.Need-returns-6
-returns-6 c =
-    let s = c .before .before .before .before .before .before .before .before .before .before .before .before .before .before in
+returns-6 c held =
+    let k = c .before .before .before in
+    let s = c .before .before .before .before .before .before .before .before .before .before .before in
     let a = s .args in
-    let e = is-plain (a .p .head .variables) (now (a .bytes)) (progress s) (c .before .if6 .taken) in
-    let r = c .on-mode in (
-      r .ensures .0 (now (a .first)) (now (a .work)) (now (a .index)) (now (a .terms)) (now (a .weights)) (now (a .counts)) (s .pre .1) ∙ ap (W.after (progress s)) (sym e),
-      r .ensures .1 (now (a .first)) (now (a .work)) (now (a .index)) (now (a .terms)) (now (a .weights)) (now (a .counts)) (s .pre .1),
-    )
-
-on-mode-requires-2 : tie.Need-on-mode-requires-2
-on-mode-requires-2 c κs = search needs
-
-returns-7 : tie.Need-returns-7
-returns-7 c =
-    let s = c .before .before .before .before .before .before .before .before .before .before .before .before .before .before .before in
-    let a = s .args in
-    let e = is-signed (a .p .head .variables) (now (a .bytes)) (progress s) (c .before .if7 .taken) in
-    let r = c .on-mode2 in (
-      r .ensures .0 (now (a .first)) (now (a .work)) (now (a .index)) (now (a .terms)) (now (a .weights)) (now (a .counts)) (s .pre .1) ∙ ap (W.after (progress s)) (sym e),
-      r .ensures .1 (now (a .first)) (now (a .work)) (now (a .index)) (now (a .terms)) (now (a .weights)) (now (a .counts)) (s .pre .1),
-    )
-
-refused-requires : tie.Need-refused-requires
-refused-requires c κs = search needs
-
-returns-8 : tie.Need-returns-8
-returns-8 c =
-    let s = c .before .before .before .before .before .before .before .before .before .before .before .before .before .before .before in
-    let a = s .args in
-    let n = a .p .head .variables in
-    let r = c .refused in
-    turned-down n (a .p) (now (a .first)) (now (a .work)) (now (a .index)) (now (a .terms)) (now (a .weights)) (now (a .counts)) (s .pre .1)
-    Misplaced (r .result) (r .ensures) (onRecord n (now (a .bytes)) (progress s))
-    (is-none n (now (a .bytes)) (progress s) (c .before .before .before .before .before .before .before .if1 .left)
-    (c .before .before .before .before .before .before .if2 .left) (c .before .before .before .before .before .if3 .left)
-    (c .before .before .before .before .if4 .left) (c .before .before .before .if5 .left) (c .before .before .if6 .left) (c .before .if7 .left))
+    turned-down (a .p) (now (a .first)) (now (a .work)) (table s) held Misplaced (c .refused .result) (c .refused .ensures) (records k)
+    (of-kind k K.Unknown (c .before .enum-told4 .given .1))
 
 pub on-record-spec : {M : Type 1} → statement M
 on-record-spec =
     tie.close
     (tie.spec
-    shared-slice-read-kind
+    shared-slice-read-kind-of
+    kind-of-requires
+    enum-told
     on-term-requires
+    enum-told-2
+    on-choice-requires
+    enum-known-kind
+    on-step-requires
+    enum-told-3
+    on-claim-requires
+    enum-known-kind-2
+    on-mode-requires
+    enum-told-4
+    refused-requires
     same-length
     returns
-    on-choice-requires
     same-length-2
     same-length-3
     returns-2
-    on-step-requires
     same-length-4
     same-length-5
     same-length-6
@@ -208,25 +208,10 @@ on-record-spec =
     same-length-8
     same-length-9
     returns-3
-    on-step-requires-2
     same-length-10
     same-length-11
     same-length-12
     same-length-13
-    same-length-14
-    same-length-15
     returns-4
-    on-claim-requires
-    same-length-16
-    same-length-17
-    same-length-18
-    same-length-19
-    same-length-20
-    same-length-21
     returns-5
-    on-mode-requires
-    returns-6
-    on-mode-requires-2
-    returns-7
-    refused-requires
-    returns-8)
+    returns-6)

@@ -1,14 +1,15 @@
 -- `put_header` meets its contract: its words and numbers one behind the other.
 use mathlib.Core.Path.{_∙_}
-use mathlib.Core.List.{List, [], _∷_, _++_}
+use mathlib.Core.List.{List, _++_}
 use Prim.Native.Nat.{ℕ}
 use native.Mathlib.Nat.{zero-add}
 use native.Mathlib.Omega.{arith}
 use lib.ListN.{length}
 use borrow.Author.Needs.{needs}
+use Rattle.listing.specs.Words.{ascii}
 use Rattle.listing.specs.Listing.{decimal, headerText}
 use Rattle.listing.specs.ListingLaws.{header-short}
-use Rattle.listing.proofs.Names.{word-variables, word-lines, header-parts}
+use Rattle.listing.proofs.Names.{header-parts}
 use Rattle.listing.proofs.Writes.{Still, all-still, next-fits, next-written, rest-written}
 use Rattle.listing.proofs.put_header.Statement.{statement}
 use Rattle.listing.proofs.put_header.Tie as tie
@@ -18,17 +19,17 @@ whole s = headerText (s .args .variables) (s .args .lines)
 
 -- the text from the number of lines on, and from the second word on
 abbrev number : tie.Start → List ℕ
-number s = decimal (s .args .lines) ++ (10 ∷ [])
+number s = decimal (s .args .lines) ++ ascii "\n"
 
 abbrev second : tie.Start → List ℕ
-second s = word-lines ++ number s
+second s = ascii "\nlines " ++ number s
 
 -- what is still to be written at the start, and behind each part
 begun : (s : tie.Start)
-    → Still (s .args .out .now) 0 (whole s) (s .args .out .now) 0 (word-variables ++ (decimal (s .args .variables) ++ second s))
+    → Still (s .args .out .now) 0 (whole s) (s .args .out .now) 0 (ascii "variables " ++ (decimal (s .args .variables) ++ second s))
 begun s =
     let a = s .args in
-    all-still (a .out .now) 0 (whole s) (word-variables ++ (decimal (a .variables) ++ second s)) (header-parts (a .variables) (a .lines))
+    all-still (a .out .now) 0 (whole s) (ascii "variables " ++ (decimal (a .variables) ++ second s)) (header-parts (a .variables) (a .lines))
     (omega (arith, s .pre, header-short (a .variables) (a .lines)))
 
 named : (c : tie.After-put-bytes)
@@ -36,7 +37,7 @@ named : (c : tie.After-put-bytes)
 named c =
     let s = c .before .before .before .before in
     let a = s .args in
-    next-written (a .out .now) 0 (whole s) (a .out .now) 0 word-variables (decimal (a .variables) ++ second s) (c .put-bytes .last .0) (c .put-bytes .result) (begun s)
+    next-written (a .out .now) 0 (whole s) (a .out .now) 0 (ascii "variables ") (decimal (a .variables) ++ second s) (c .put-bytes .last .0) (c .put-bytes .result) (begun s)
     (c .put-bytes .ensures)
 
 numbered : (c : tie.After-put-decimal)
@@ -53,15 +54,15 @@ lined : (c : tie.After-put-bytes2)
 lined c =
     let s = c .before .before .before .before .before .before .before .before .before .before .before .before .before in
     let h = c .before .before .before .before .before .put-decimal in
-    next-written (s .args .out .now) 0 (whole s) (h .last .0) (h .result) word-lines (number s) (c .put-bytes2 .last .0) (c .put-bytes2 .result)
+    next-written (s .args .out .now) 0 (whole s) (h .last .0) (h .result) (ascii "\nlines ") (number s) (c .put-bytes2 .last .0) (c .put-bytes2 .result)
     (numbered (c .before .before .before .before .before)) (c .put-bytes2 .ensures)
 
 counted : (c : tie.After-put-decimal2)
-    → (let s = c .before .before .before .before .before .before .before .before .before .before .before .before .before .before .before .before .before in Still (s .args .out .now) 0 (whole s) (c .put-decimal2 .last .0) (c .put-decimal2 .result) (10 ∷ []))
+    → (let s = c .before .before .before .before .before .before .before .before .before .before .before .before .before .before .before .before .before in Still (s .args .out .now) 0 (whole s) (c .put-decimal2 .last .0) (c .put-decimal2 .result) (ascii "\n"))
 counted c =
     let s = c .before .before .before .before .before .before .before .before .before .before .before .before .before .before .before .before .before in
     let h = c .before .before .before .before .put-bytes2 in
-    next-written (s .args .out .now) 0 (whole s) (h .last .0) (h .result) (decimal (s .args .lines)) (10 ∷ []) (c .put-decimal2 .last .0) (c .put-decimal2 .result)
+    next-written (s .args .out .now) 0 (whole s) (h .last .0) (h .result) (decimal (s .args .lines)) (ascii "\n") (c .put-decimal2 .last .0) (c .put-decimal2 .result)
     (lined (c .before .before .before .before))
     (c .put-decimal2 .ensures)
 
@@ -84,13 +85,13 @@ put-bytes-requires-2 : tie.Need-put-bytes-requires-2
 put-bytes-requires-2 c κs =
     let s = c .before .before .before .before .before .before .before .before .before .before .before .before in
     let h = c .before .before .before .before .put-decimal in
-    next-fits (s .args .out .now) 0 (whole s) (h .last .0) (h .result) word-lines (number s) (numbered (c .before .before .before .before))
+    next-fits (s .args .out .now) 0 (whole s) (h .last .0) (h .result) (ascii "\nlines ") (number s) (numbered (c .before .before .before .before))
 
 put-decimal-requires-2 : tie.Need-put-decimal-requires-2
 put-decimal-requires-2 c κs =
     let s = c .before .before .before .before .before .before .before .before .before .before .before .before .before .before .before .before in
     let h = c .before .before .before .put-bytes2 in
-    next-fits (s .args .out .now) 0 (whole s) (h .last .0) (h .result) (decimal (s .args .lines)) (10 ∷ []) (lined (c .before .before .before))
+    next-fits (s .args .out .now) 0 (whole s) (h .last .0) (h .result) (decimal (s .args .lines)) (ascii "\n") (lined (c .before .before .before))
 
 slice-aggregate-put-bytes-3 : tie.Need-slice-aggregate-put-bytes-3
 slice-aggregate-put-bytes-3 c = search needs
@@ -106,7 +107,7 @@ returns c =
     let s = c .before .before .before .before .before .before .before .before .before .before .before .before .before .before .before .before .before .before .before .before .before .before .before .before in
     let h = c .before .before .before .before .before .before .before .put-decimal2 in
     let r = c .before .before .put-bytes3 in
-    let e = rest-written (s .args .out .now) 0 (whole s) (h .last .0) (h .result) (10 ∷ []) (r .last .0) (r .result) (counted (c .before .before .before .before .before .before .before)) (r .ensures) in
+    let e = rest-written (s .args .out .now) 0 (whole s) (h .last .0) (h .result) (ascii "\n") (r .last .0) (r .result) (counted (c .before .before .before .before .before .before .before)) (r .ensures) in
     (e .0 ∙ zero-add (length (whole s)), e .1)
 
 pub put-header-spec : {M : Type 1} → statement M

@@ -1,6 +1,6 @@
 -- `put_line` meets its contract: its parts one behind the other.
 use mathlib.Core.Path.{_≡_, sym, ap, _∙_}
-use mathlib.Core.List.{List, [], _∷_, _++_, map}
+use mathlib.Core.List.{List, _++_}
 use Prim.Native.Nat.{ℕ}
 use native.Mathlib.Nat.{zero-add}
 use native.Mathlib.Omega.{arith}
@@ -11,9 +11,10 @@ use mir.Val.{toZ, ofZ}
 use mir.Facts.{toZ-ofZ}
 use borrow.Author.Needs.{needs}
 use Rattle.configuration.specs.Configuration.{line}
-use Rattle.listing.specs.Listing.{weightText, joined, termText, lineText}
-use Rattle.listing.specs.ListingLaws.{line-short}
-use Rattle.listing.proofs.Names.{plus, line-parts}
+use Rattle.listing.specs.Words.{ascii}
+use Rattle.listing.specs.Listing.{weightText, termsText, lineText}
+use Rattle.listing.specs.ListingLaws.{line-text-short}
+use Rattle.listing.proofs.Names.{line-parts}
 use Rattle.listing.proofs.Writes.{Still, all-still, next-fits, next-written, rest-written}
 use Rattle.listing.proofs.put_line.Statement.{statement}
 use Rattle.listing.proofs.put_line.Tie as tie
@@ -30,22 +31,22 @@ back s = toZ-ofZ (s .fits .weight)
 
 -- the text from the terms on
 abbrev terms : tie.Start → List ℕ
-terms s = joined plus (map termText (s .args .f .now)) ++ (10 ∷ [])
+terms s = termsText (s .args .f .now) ++ ascii "\n"
 
 -- what is still to be written at the start, and behind each part
-begun : (s : tie.Start) → Still (s .args .out .now) 0 (whole s) (s .args .out .now) 0 (weightText (read s) ++ ((58 ∷ 32 ∷ []) ++ terms s))
+begun : (s : tie.Start) → Still (s .args .out .now) 0 (whole s) (s .args .out .now) 0 (weightText (read s) ++ (ascii ": " ++ terms s))
 begun s =
     let a = s .args in
-    all-still (a .out .now) 0 (whole s) (weightText (read s) ++ ((58 ∷ 32 ∷ []) ++ terms s))
-    (line-parts (a .f .now) (a .weight) ∙ ap (λ (z : ℤ). weightText z ++ ((58 ∷ 32 ∷ []) ++ terms s)) (sym (back s)))
-    (omega (arith, s .pre, line-short (a .f .now) (a .weight) (s .pre .1)))
+    all-still (a .out .now) 0 (whole s) (weightText (read s) ++ (ascii ": " ++ terms s))
+    (line-parts (a .f .now) (a .weight) ∙ ap (λ (z : ℤ). weightText z ++ (ascii ": " ++ terms s)) (sym (back s)))
+    (omega (arith, s .pre, line-text-short (a .f .now) (a .weight) (s .pre .1)))
 
 weighed : (c : tie.After-put-weight)
-    → (let s = c .before .before .before .before in Still (s .args .out .now) 0 (whole s) (c .put-weight .last .0) (c .put-weight .result) ((58 ∷ 32 ∷ []) ++ terms s))
+    → (let s = c .before .before .before .before in Still (s .args .out .now) 0 (whole s) (c .put-weight .last .0) (c .put-weight .result) (ascii ": " ++ terms s))
 weighed c =
     let s = c .before .before .before .before in
     let a = s .args in
-    next-written (a .out .now) 0 (whole s) (a .out .now) 0 (weightText (read s)) ((58 ∷ 32 ∷ []) ++ terms s) (c .put-weight .last .0) (c .put-weight .result) (begun s)
+    next-written (a .out .now) 0 (whole s) (a .out .now) 0 (weightText (read s)) (ascii ": " ++ terms s) (c .put-weight .last .0) (c .put-weight .result) (begun s)
     (c .put-weight .ensures)
 
 parted : (c : tie.After-put-bytes)
@@ -53,22 +54,22 @@ parted : (c : tie.After-put-bytes)
 parted c =
     let s = c .before .before .before .before .before .before .before .before .before in
     let h = c .before .before .before .before .before .put-weight in
-    next-written (s .args .out .now) 0 (whole s) (h .last .0) (h .result) (58 ∷ 32 ∷ []) (terms s) (c .put-bytes .last .0) (c .put-bytes .result)
+    next-written (s .args .out .now) 0 (whole s) (h .last .0) (h .result) (ascii ": ") (terms s) (c .put-bytes .last .0) (c .put-bytes .result)
     (weighed (c .before .before .before .before .before)) (c .put-bytes .ensures)
 
 ended : (c : tie.After-put-terms)
-    → (let s = c .before .before .before .before .before .before .before .before .before .before .before .before .before in Still (s .args .out .now) 0 (whole s) (c .put-terms .last .0) (c .put-terms .result) (10 ∷ []))
+    → (let s = c .before .before .before .before .before .before .before .before .before .before .before .before .before in Still (s .args .out .now) 0 (whole s) (c .put-terms .last .0) (c .put-terms .result) (ascii "\n"))
 ended c =
     let s = c .before .before .before .before .before .before .before .before .before .before .before .before .before in
     let h = c .before .before .before .before .put-bytes in
-    next-written (s .args .out .now) 0 (whole s) (h .last .0) (h .result) (joined plus (map termText (s .args .f .now))) (10 ∷ []) (c .put-terms .last .0)
+    next-written (s .args .out .now) 0 (whole s) (h .last .0) (h .result) (termsText (s .args .f .now)) (ascii "\n") (c .put-terms .last .0)
     (c .put-terms .result) (parted (c .before .before .before .before))
     (c .put-terms .ensures)
 
 put-weight-requires : tie.Need-put-weight-requires
 put-weight-requires c κs =
     let s = c .before .before .before in
-    next-fits (s .args .out .now) 0 (whole s) (s .args .out .now) 0 (weightText (read s)) ((58 ∷ 32 ∷ []) ++ terms s) (begun s)
+    next-fits (s .args .out .now) 0 (whole s) (s .args .out .now) 0 (weightText (read s)) (ascii ": " ++ terms s) (begun s)
 
 slice-aggregate-put-bytes : tie.Need-slice-aggregate-put-bytes
 slice-aggregate-put-bytes c = search needs
@@ -80,7 +81,7 @@ put-terms-requires : tie.Need-put-terms-requires
 put-terms-requires c κs =
     let s = c .before .before .before .before .before .before .before .before .before .before .before .before in
     let h = c .before .before .before .put-bytes in
-    next-fits (s .args .out .now) 0 (whole s) (h .last .0) (h .result) (joined plus (map termText (s .args .f .now))) (10 ∷ []) (parted (c .before .before .before))
+    next-fits (s .args .out .now) 0 (whole s) (h .last .0) (h .result) (termsText (s .args .f .now)) (ascii "\n") (parted (c .before .before .before))
 
 slice-aggregate-put-bytes-2 : tie.Need-slice-aggregate-put-bytes-2
 slice-aggregate-put-bytes-2 c = search needs
@@ -96,7 +97,7 @@ returns c =
     let s = c .before .before .before .before .before .before .before .before .before .before .before .before .before .before .before .before .before .before .before .before in
     let h = c .before .before .before .before .before .before .before .put-terms in
     let r = c .before .before .put-bytes2 in
-    let e = rest-written (s .args .out .now) 0 (whole s) (h .last .0) (h .result) (10 ∷ []) (r .last .0) (r .result) (ended (c .before .before .before .before .before .before .before)) (r .ensures) in
+    let e = rest-written (s .args .out .now) 0 (whole s) (h .last .0) (h .result) (ascii "\n") (r .last .0) (r .result) (ended (c .before .before .before .before .before .before .before)) (r .ensures) in
     (e .0 ∙ zero-add (length (whole s)), e .1)
 
 pub put-line-spec : {M : Type 1} → statement M

@@ -1,39 +1,54 @@
 -- `put_listing` meets its contract. The invariant: the texts from the number on, written behind what stands, are the whole listing.
 use mathlib.Core.List.{List, _++_}
-use mathlib.Core.Path.{_≡_, ap}
+use mathlib.Core.Path.{_≡_}
 use Prim.Native.Nat.{ℕ, suc, _+_, _-_, _*_, _≤_}
 use native.Mathlib.Omega.{arith}
 use lib.ListN.{length}
-use borrow.Rule.Slice.PartMut.{putMid, mid-len}
+use denote.Ref.{now}
+use borrow.Rule.Slice.PartMut.{mid-len}
 use borrow.Author.Needs.{needs}
-use Rattle.configuration.specs.Memory.{Memory, memoryOf, linesOf}
-use Rattle.listing.specs.Listing.{textOf, textsFrom, listed}
-use Rattle.listing.proofs.Writes.{Still, still-as, all-still, next-fits, next-written, none-left, part-written}
-use Rattle.listing.specs.ListingLaws.{texts-step, texts-over, lines-most, memory-listing, listing-short}
+use Rattle.table.specs.Rows.{Table, tableAt, linesOf}
+use Rattle.listing.specs.Listing.{textOf, listingOf}
+use Rattle.listing.specs.ListingLaws.{textsFrom}
+use Rattle.listing.proofs.Listings.{texts-step, texts-over, table-listing, table-short}
+use Rattle.listing.proofs.Writes.{Still, still-as, all-still, part-next, none-left}
 use Rattle.listing.proofs.put_listing.Statement.{statement}
 use Rattle.listing.proofs.put_listing.Tie as tie
 
 abbrev Inv-loop : tie.InvT-loop
-Inv-loop out₀ at head terms weights counts lines end₀ number₀ out end number =
-    let m = memoryOf head terms weights counts in
-    (number ≤ suc lines) × ((end ≤ at + number * 8448) × Still out₀ at (listed m) out end (textsFrom (suc lines - number) number (head .variables) (linesOf m)))
+Inv-loop out₀ at variables lines order terms weights counts end₀ number₀ out end number =
+    let L = linesOf (record { lines = lines; order = order; terms = terms; weights = weights; counts = counts }) in
+    (number ≤ suc lines) × ((end ≤ at + number * 8448) × Still out₀ at (listingOf variables L) out end (textsFrom (suc lines - number) number variables L))
 
 abbrev μ-loop : tie.MeasureT-loop
-μ-loop out₀ at head terms weights counts lines end₀ number₀ out end number = suc lines - number
+μ-loop out₀ at variables lines order terms weights counts end₀ number₀ out end number = suc lines - number
 
-abbrev memory : tie.Start Inv-loop μ-loop → Memory
-memory s = memoryOf (s .args .head) (s .args .terms .now) (s .args .weights .now) (s .args .counts .now)
+abbrev table : tie.Start Inv-loop μ-loop → Table
+table s = let a = s .args in tableAt (a .lines) (a .order) (a .terms) (a .weights) (a .counts)
 
-cast-lines : tie.Need-cast-lines Inv-loop μ-loop
-cast-lines c = search needs
+abbrev listed : tie.Start Inv-loop μ-loop → List ℕ
+listed s = listingOf (s .args .variables) (linesOf (table s))
+
+-- the text of a number, and those from a number on
+abbrev text : tie.Start Inv-loop μ-loop → ℕ → List ℕ
+text s number = textOf number (s .args .variables) (linesOf (table s))
+
+abbrev texts : tie.Start Inv-loop μ-loop → ℕ → List ℕ
+texts s number = textsFrom (suc (s .args .lines) - number) number (s .args .variables) (linesOf (table s))
+
+abbrev start : tie.At-loop Inv-loop μ-loop → tie.Start Inv-loop μ-loop
+start k = k .before .before .before .before .before
 
 loop-holds : tie.Need-loop-holds Inv-loop μ-loop
 loop-holds c =
     let s = c .before .before .before .before in
-    let m : Memory = memory s in
-    let rest : List ℕ = textsFrom (suc (m .lines) - 0) 0 (m .variables) (linesOf m) in
-    let e : suc (m .lines) - 0 ≡ suc (m .lines) = omega arith in
-    (omega arith, (omega arith, all-still (s .args .out .now) (s .args .at) (listed m) rest (rw e (memory-listing m)) (omega (arith, listing-short m (s .pre .0), s .pre .1))))
+    let a = s .args in (
+      omega arith,
+      (
+        omega arith,
+        all-still (now (a .out)) (a .at) (listed s) (texts s 0) (table-listing (a .variables) (s .pre .0)) (omega (arith, table-short (a .variables) (s .pre .0), s .pre .1)),
+      ),
+    )
 
 sub-put-text : tie.Need-sub-put-text Inv-loop μ-loop
 sub-put-text c = search needs
@@ -46,19 +61,20 @@ part-put-text-end c = search needs
 
 put-text-requires : tie.Need-put-text-requires Inv-loop μ-loop
 put-text-requires c κs =
-    let s = c .before .before .before .before .before .before .before in
-    let l = c .before .before .loop in
-    let n : length (l .out) ≡ length (s .args .out .now) = l .inv .1 .1 .kept in
-    let b : l .number ≤ s .args .head .lines = omega arith in
-    let k : length (l .out) ≤ length (l .out) = omega arith in
-    (s .pre .0, b, omega (arith, lines-most (memory s) (s .pre .0), s .pre .1, mid-len (l .end) (length (l .out)) (l .out) k))
+    let k = c .before .before in
+    let s = start k in
+    let l = k .loop in
+    let n : length (l .out) ≡ length (now (s .args .out)) = l .inv .1 .1 .kept in
+    let b : l .number ≤ s .args .lines = omega (arith, c .before .loop-test .taken) in
+    let o : length (l .out) ≤ length (l .out) = omega arith in
+    (s .pre .0, b, omega (arith, s .pre .0 .room, s .pre .1, l .inv .1 .0, mid-len (l .end) (length (l .out)) (l .out) o))
 
 add-end : tie.Need-add-end Inv-loop μ-loop
 add-end c =
-    let s = c .before .before .before .before .before .before .before .before .before .before in
-    let l = c .before .before .before .before .before .loop in
-    let r : ℕ = c .before .before .put-text .result in
-    let b : l .end + r ≤ length (s .args .out .now) = omega (arith, s .pre .1, c .before .before .put-text .ensures .1 .1, lines-most (memory s) (s .pre .0)) in
+    let k = c .before .before .before .before .before in
+    let s = start k in
+    let p = c .before .before .put-text in
+    let b : k .loop .end + p .result ≤ length (now (s .args .out)) = omega (arith, s .pre .1, p .ensures .1 .1, s .pre .0 .room, k .loop .inv .1 .0) in
     search needs
 
 add-number : tie.Need-add-number Inv-loop μ-loop
@@ -69,22 +85,20 @@ loop-less c = search needs
 
 loop-again : tie.Need-loop-again Inv-loop μ-loop
 loop-again c =
-    let s = c .before .before .before .before .before .before .before .before .before .before in
-    let l = c .before .before .before .before .before .loop in
+    let k = c .before .before .before .before .before in
+    let s = start k in
+    let a = s .args in
+    let l = k .loop in
     let p = c .before .before .put-text in
-    let m : Memory = memory s in
-    let x : List ℕ = textOf (l .number) (m .variables) (linesOf m) in
-    let rest : List ℕ = textsFrom (suc (m .lines) - (l .number + 1)) (l .number + 1) (m .variables) (linesOf m) in
-    let b : l .number ≤ m .lines = omega arith in
-    let t : Still (s .args .out .now) (s .args .at) (listed m) (l .out) (l .end) (x ++ rest) =
-    still-as (s .args .out .now) (s .args .at) (listed m) (l .out) (l .end) (textsFrom (suc (m .lines) - l .number) (l .number) (m .variables) (linesOf m)) (x ++ rest)
-    (texts-step (m .lines) (l .number) (m .variables) (linesOf m) b) (l .inv .1 .1) in
-    let f : l .end ≤ length (l .out) = omega (arith, next-fits (s .args .out .now) (s .args .at) (listed m) (l .out) (l .end) x rest t) in (
+    let x : List ℕ = text s (l .number) in
+    let rest : List ℕ = texts s (l .number + 1) in
+    let b : l .number ≤ a .lines = omega arith in
+    let t : Still (now (a .out)) (a .at) (listed s) (l .out) (l .end) (x ++ rest) =
+    still-as (now (a .out)) (a .at) (listed s) (l .out) (l .end) (texts s (l .number)) (x ++ rest) (texts-step (a .lines) (l .number) (a .variables) (linesOf (table s)) b) (l .inv .1 .1) in (
       omega arith,
       (
         omega (arith, p .ensures .1 .1),
-        next-written (s .args .out .now) (s .args .at) (listed m) (l .out) (l .end) x rest (putMid (l .end) (length (l .out) - l .end) (l .out) (p .last .0)) (l .end + p .result) t
-            (ap (λ (k : ℕ). l .end + k) (p .ensures .0), part-written (l .out) (l .end) x (p .last .0) f (p .ensures .1 .0)),
+        part-next (now (a .out)) (a .at) (listed s) (l .out) (l .end) x rest (p .last .0) (p .result) t (p .ensures .0) (p .ensures .1 .0),
       ),
     )
 
@@ -93,12 +107,11 @@ same-length c = search needs
 
 returns : tie.Need-returns Inv-loop μ-loop
 returns c =
-    let s = c .before .before .before .before .before .before in
+    let s = start (c .before) in
+    let a = s .args in
     let l = c .before .loop in
-    let m : Memory = memory s in
-    let e = none-left (s .args .out .now) (s .args .at) (listed m) (l .out) (l .end) (textsFrom (suc (m .lines) - l .number) (l .number) (m .variables) (linesOf m))
-    (texts-over (m .lines) (l .number) (m .variables) (linesOf m) (omega arith)) (l .inv .1 .1) in
-    (e .0, (e .1, omega (arith, e .0, listing-short m (s .pre .0))))
+    let e = none-left (now (a .out)) (a .at) (listed s) (l .out) (l .end) (texts s (l .number)) (texts-over (a .lines) (l .number) (a .variables) (linesOf (table s)) (omega arith)) (l .inv .1 .1) in
+    (e .0, (e .1, omega (arith, e .0, table-short (a .variables) (s .pre .0))))
 
 pub put-listing-spec : {M : Type 1} → statement M
 put-listing-spec =
@@ -106,7 +119,6 @@ put-listing-spec =
     (tie.spec
     Inv-loop
     μ-loop
-    cast-lines
     loop-holds
     sub-put-text
     part-put-text-start

@@ -1,55 +1,69 @@
 -- `put_text` meets its contract: the header, or the line of the number.
 use mathlib.Core.Path.{sym, ap₂, _∙_}
 use mathlib.Core.List.{List}
-use Prim.Native.Nat.{ℕ, _-_, _≤_}
+use Prim.Native.Nat.{ℕ}
 use native.Mathlib.Omega.{arith}
 use lib.IntN.{ℤ, pos}
-use lib.ListN.{length, getD}
+use lib.ListN.{getD}
 use mir.Syntax.{w64}
 use mir.Val.{toZ, ofZ}
+use mir.Facts.{toZ-ofZ}
 use denote.Ref.{now}
 use borrow.Author.Needs.{needs}
 use Rattle.configuration.specs.Configuration.{line}
-use Rattle.configuration.specs.Memory.{Memory, memoryOf, linesOf}
-use Rattle.configuration.proofs.Areas.{read-back}
+use Rattle.table.specs.Rows.{Table, tableAt, linesOf}
 use Rattle.listing.specs.Listing.{headerText, lineText, textOf}
-use Rattle.listing.specs.ListingLaws.{text-short}
-use Rattle.listing.proofs.Lines.{Here, header-there, line-there, at-front}
+use Rattle.listing.proofs.Lines.{Here, short, header-there, entry-there, line-there, at-front}
 use Rattle.listing.proofs.put_text.Statement.{statement}
 use Rattle.listing.proofs.put_text.Tie as tie
 
-abbrev memory : tie.Start → Memory
-memory s = memoryOf (s .args .head) (now (s .args .terms)) (now (s .args .weights)) (now (s .args .counts))
+abbrev table : tie.Start → Table
+table s = let a = s .args in tableAt (a .lines) (a .order) (a .terms) (a .weights) (a .counts)
 
 abbrev text : tie.Start → List ℕ
-text s = textOf (s .args .number) (s .args .head .variables) (linesOf (memory s))
+text s = textOf (s .args .number) (s .args .variables) (linesOf (table s))
 
-short : (s : tie.Start) → length (text s) ≤ 8448
-short s = text-short (s .args .number) (memory s) (s .pre .0)
+-- the start, where the number is 0 or not
+abbrev of-header : tie.Then1 → tie.Start
+of-header c = c .before .before .before .before .before
 
-here : (c : tie.Else1) → (let s = c .before .before .before .before in Here (memory s) (s .args .number))
+abbrev of-line : tie.Else1 → tie.Start
+of-line c = c .before .before .before .before .before
+
+-- the row of the line, and what is known of it
+abbrev place : tie.After-row-at → ℕ
+place c = c .row-at .result
+
+here : (c : tie.After-row-at) → (let s = of-line (c .before) in Here (s .args .variables) (table s) (s .args .number) (place c))
 here c =
-    let s = c .before .before .before .before in
-    line-there (memory s) (s .args .number) (s .pre .0) (c .if1 .left) (s .pre .1)
+    let s = of-line (c .before) in
+    line-there (s .args .variables) (s .pre .0) (s .args .number) (place c) (c .row-at .ensures) (c .before .if1 .left) (s .pre .1)
 
-abbrev amount : tie.Start → ℤ
-amount s = getD (s .args .weights .now) (s .args .number - 1) (pos 0)
+abbrev amount : tie.After-row-at → ℤ
+amount c = getD (now (of-line (c .before) .args .weights)) (place c) (pos 0)
 
 put-header-requires : tie.Need-put-header-requires
-put-header-requires c κs = c .before .before .before .before .before .pre .2
+put-header-requires c κs = of-header (c .before) .pre .2
 
 same-length : tie.Need-same-length
 same-length c = search needs
 
 returns : tie.Need-returns
 returns c =
-    let s = c .before .before .before .before .before .before .before .before in
+    let k = c .before .before .before .before in
+    let s = of-header k in
+    let a = s .args in
     let h = c .before .before .put-header in
-    at-front (s .args .out .now) (headerText (s .args .head .variables) (s .args .head .lines)) (text s) (h .last .0) (h .result)
-    (sym (header-there (memory s) (s .args .number) (s .pre .0) (c .before .before .before .before .if1 .taken))) (short s) (h .ensures)
+    at-front (now (a .out)) (headerText (a .variables) (a .lines)) (text s) (h .last .0) (h .result)
+    (sym (header-there (a .variables) (s .pre .0) (a .number) (k .if1 .taken))) (short (a .variables) (s .pre .0) (a .number)) (h .ensures)
 
-sub-i : tie.Need-sub-i
-sub-i c = search needs
+sub-row-at : tie.Need-sub-row-at
+sub-row-at c = search needs
+
+row-at-requires : tie.Need-row-at-requires
+row-at-requires c κs =
+    let s = of-line c in
+    entry-there (s .args .variables) (s .pre .0) (s .args .number) (c .if1 .left) (s .pre .1)
 
 mul-count : tie.Need-mul-count
 mul-count c = search needs
@@ -58,7 +72,7 @@ shared-slice-read-count : tie.Need-shared-slice-read-count
 shared-slice-read-count c = here (c .before) .in-counts
 
 cast-count : tie.Need-cast-count
-cast-count c = omega (arith, c .shared-slice-known3 .given (c .before .before .before .before .before .args .number - 1), here (c .before) .in-counts)
+cast-count c = omega (arith, c .shared-slice-known4 .given (place (c .before)), here (c .before) .in-counts)
 
 row-requires : tie.Need-row-requires
 row-requires c κs = here (c .before .before) .in-terms
@@ -71,22 +85,24 @@ shared-slice-copy-out-put-line c = here (c .before .before .before) .in-weights
 
 put-line-requires : tie.Need-put-line-requires
 put-line-requires c κs =
-    let s = c .before .before .before .before .before .before .before .before in
-    (s .pre .2, rw (c .before .row .ensures) (here (c .before .before .before .before) .few))
+    let k = c .before .before .before .before in
+    (of-line (k .before) .pre .2, rw (c .before .row .ensures) (here k .few))
 
 same-length-2 : tie.Need-same-length-2
 same-length-2 c = search needs
 
 returns-2 : tie.Need-returns-2
 returns-2 c =
-    let s = c .before .before .before .before .before .before .before .before .before .before .before in
+    let g = c .before .before .before in
+    let k = g .before .before .before .before in
+    let s = of-line (k .before) in
+    let a = s .args in
     let h = c .before .before .put-line in
-    let f : List ℕ = c .before .before .before .before .row .result .now in
-    let w : ℤ = toZ w64 (ofZ w64 (amount s)) in
-    at-front (s .args .out .now) (lineText (line f w)) (text s) (h .last .0) (h .result)
-    (ap₂ (λ (x : List ℕ) (y : ℤ). lineText (line x y)) (c .before .before .before .before .row .ensures) (read-back (amount s) (c .before .before .before .put-line-arg2 .given))
-    ∙ sym (here (c .before .before .before .before .before .before .before) .text))
-    (short s) (h .ensures)
+    let w : ℤ = toZ w64 (ofZ w64 (amount k)) in
+    at-front (now (a .out)) (lineText (line (g .before .row .result .now) w)) (text s) (h .last .0) (h .result)
+    (ap₂ (λ (x : List ℕ) (y : ℤ). lineText (line x y)) (g .before .row .ensures) (toZ-ofZ {w = w64} {z = amount k} (record { sfits = g .put-line-arg2 .given }))
+    ∙ sym (here k .text))
+    (short (a .variables) (s .pre .0) (a .number)) (h .ensures)
 
 pub put-text-spec : {M : Type 1} → statement M
 put-text-spec =
@@ -95,7 +111,8 @@ put-text-spec =
     put-header-requires
     same-length
     returns
-    sub-i
+    sub-row-at
+    row-at-requires
     mul-count
     shared-slice-read-count
     cast-count

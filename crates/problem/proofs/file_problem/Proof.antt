@@ -1,99 +1,188 @@
--- `file_problem` meets its contract: the areas have their lengths, or nothing is written; the records are read by an index, and then the lines put in turn.
-use mathlib.Core.Path.{ap, _∙_}
+-- `file_problem` meets its contract. The invariant: what is left to do from the progress on is the whole filing.
+use mathlib.Core.Path.{_≡_, refl, sym, ap, _∙_}
+use Prim.Native.Nat.{_+_, _-_, _≤_, _<_}
+use native.Mathlib.Omega.{arith}
+use lib.ListN.{length, replicate}
 use denote.Ref.{now}
 use borrow.Author.Needs.{needs}
-use Rattle.configuration.specs.Memory.{memoryOf}
-use Rattle.problem.specs.Problem.{Left, leftOf}
-use Rattle.problem.specs.declared.Report.{Report}
-use Rattle.problem.proofs.Walks.{in-turn-kept, settled, other-lengths, these-lengths}
+use Rattle.refusal.specs.Outcome.{Reached, after, stopOf}
+use Rattle.refusal.specs.declared.Objection.{Objection}
+use Rattle.walk.specs.Walk.{readAll, over}
+use Rattle.walk.proofs.Adds.{held-none}
+use Rattle.walk.proofs.Leads.{Leads, ends, inside, next-leads, unmoved, ends-refused}
+use Rattle.problem.specs.Problem.{empty, State, onRecord, filing, toldOfFiling}
+use Rattle.problem.specs.ProblemLaws.{Sound}
+use Rattle.problem.specs.RefusedLaws.{filing-local}
+use Rattle.problem.specs.Held.{progressIn, Held}
+use Rattle.problem.proofs.Next.{tableIn}
+use Rattle.problem.proofs.Walks.{sound-usable, first-held, first-sound, first-leads, next-sound, made-there, told-next}
 use Rattle.problem.proofs.file_problem.Statement.{statement}
+use Rattle.walk.specs.Walk as W
 use Rattle.problem.proofs.file_problem.Tie as tie
 
--- what an answer leaves where nothing is written
-abbrev left-in : tie.Start → Report → Left
-left-in s r = leftOf (memoryOf (r .head) (now (s .args .terms)) (now (s .args .weights)) (now (s .args .counts))) (r .answer)
+abbrev Inv-loop : tie.InvT-loop
+Inv-loop bytes order₀ terms₀ weights₀ counts₀ work₀ p₀ order terms weights counts work p =
+    (length order ≡ length order₀) × (length terms ≡ length terms₀) × (length weights ≡ length weights₀) × (length counts ≡ length counts₀) × (p .at ≤ length bytes)
+    × Held p work (tableIn order terms weights counts) × Sound (progressIn p work (tableIn order terms weights counts) .state)
+    × Leads filing bytes (readAll filing bytes empty) (progressIn p work (tableIn order terms weights counts))
 
-turned-away-requires : tie.Need-turned-away-requires
-turned-away-requires c κs = search needs
+abbrev μ-loop : tie.MeasureT-loop
+μ-loop bytes order₀ terms₀ weights₀ counts₀ work₀ p₀ order terms weights counts work p = length bytes - p .at
 
-returns : tie.Need-returns
-returns c =
+short : (c : tie.After-shared-slice-known Inv-loop μ-loop) → length (now (c .before .args .bytes)) < 18446744073709551616
+short c = omega arith
+
+-- ---- one record
+abbrev start : tie.After-on-record Inv-loop μ-loop → tie.Start Inv-loop μ-loop
+start c = c .before .before .before .before .before .before .before .before .before .before .before .before .before .before
+
+abbrev was : tie.After-on-record Inv-loop μ-loop → W.Progress State
+was c = let l = c .before .before .before .before .before .before .before .before .loop in progressIn (l .p) (l .work) (tableIn (l .order) (l .terms) (l .weights) (l .counts))
+
+abbrev reached : tie.After-on-record Inv-loop μ-loop → W.Progress State
+reached c =
+    let r = c .on-record in
+    let l = r .last .1 .1 .1 in
+    progressIn (r .result .progress) (r .last .1 .1 .0) (tableIn (l .0) (l .1 .0) (l .1 .1 .0) (l .1 .1 .1 .0))
+
+counted : (c : tie.After-on-record Inv-loop μ-loop) → was c .records ≤ was c .at
+counted c = c .before .before .before .before .before .before .before .before .loop .inv .5 .counted
+
+under : (c : tie.After-on-record Inv-loop μ-loop) → was c .at < length (now (start c .args .bytes))
+under c = c .before .before .before .before .before .before .if1 .taken
+
+told : (c : tie.After-on-record Inv-loop μ-loop) (o : Objection) → c .on-record .result .objection ≡ o
+    → _≡_ {A = Reached (W.Progress State)} (record { reached = reached c; stop = stopOf o }) (after (was c) (onRecord (now (start c .args .bytes)) (was c)))
+told c o e = ap (λ (o : Objection). record { reached = reached c; stop = stopOf o }) (sym e) ∙ c .on-record .ensures (c .before .before .before .before .before .before .before .before .loop .inv .5) .0
+
+loop-holds : tie.Need-loop-holds Inv-loop μ-loop
+loop-holds c =
     let s = c .before .before .before .before .before in
     let a = s .args in
-    ap (left-in s) (c .turned-away .ensures) ∙ other-lengths (now (a .bytes)) (now (a .terms)) (now (a .weights)) (now (a .counts)) (λ k. c .before .if1 .taken (k .0))
+    let t = tableIn (now (a .order)) (now (a .terms)) (now (a .weights)) (now (a .counts)) in
+    (refl, refl, refl, refl, omega arith, first-held (replicate 64 0) t refl (s .pre), first-sound (replicate 64 0) t, first-leads (replicate 64 0) t (now (a .bytes)))
 
-turned-away-requires-2 : tie.Need-turned-away-requires-2
-turned-away-requires-2 c κs = search needs
+slice-aggregate-on-record : tie.Need-slice-aggregate-on-record Inv-loop μ-loop
+slice-aggregate-on-record c = search needs
 
-returns-2 : tie.Need-returns-2
-returns-2 c =
-    let s = c .before .before .before .before .before .before in
-    let a = s .args in
-    ap (left-in s) (c .turned-away2 .ensures) ∙ other-lengths (now (a .bytes)) (now (a .terms)) (now (a .weights)) (now (a .counts)) (λ k. c .before .if2 .taken (k .1))
+on-record-requires : tie.Need-on-record-requires Inv-loop μ-loop
+on-record-requires c κs =
+    let l = c .before .before .before .before .before .before .before .loop in
+    (c .before .before .before .before .before .if1 .taken, l .inv .5, sound-usable (progressIn (l .p) (l .work) (tableIn (l .order) (l .terms) (l .weights) (l .counts)) .state) (l .inv .6))
 
-turned-away-requires-3 : tie.Need-turned-away-requires-3
-turned-away-requires-3 c κs = search needs
+enum-known-objection : tie.Need-enum-known-objection Inv-loop μ-loop
+enum-known-objection c = search needs
 
-returns-3 : tie.Need-returns-3
-returns-3 c =
-    let s = c .before .before .before .before .before .before .before in
-    let a = s .args in
-    ap (left-in s) (c .turned-away3 .ensures) ∙ other-lengths (now (a .bytes)) (now (a .terms)) (now (a .weights)) (now (a .counts)) (λ k. c .before .if3 .taken (k .2))
+add-t27 : tie.Need-add-t27 Inv-loop μ-loop
+add-t27 c =
+    let k = c .before .before .before .before .before .before .before .before .before .before .before .before .before in
+    let u : reached k ≡ was k = unmoved filing (now (start k .args .bytes)) (was k) (reached k) _ (told k _ (c .before .before .objection .given .1)) in
+    let n : reached k .records ≡ was k .records = ap (λ (q : W.Progress State). q .records) u in
+    let m = counted k in
+    let d = under k in
+    let g = short (k .before .before .before .before .before .before .before .before .before .before .before .before .before) in
+    let h : reached k .records + 1 < 18446744073709551616 = omega arith in
+    record { fits = h }
 
-blank-requires : tie.Need-blank-requires
-blank-requires c κs = search needs
-
-in-turn-requires : tie.Need-in-turn-requires
-in-turn-requires c κs = search needs
-
-slice-aggregate-read-records : tie.Need-slice-aggregate-read-records
-slice-aggregate-read-records c = search needs
-
-read-records-requires : tie.Need-read-records-requires
-read-records-requires c κs =
-    let b = c .before .before .before .before .before .before .before .before .before .before .before .blank in
-    let i = c .before .before .before .before .in-turn in
-    in-turn-kept (b .result) (i .result) (b .last .0) (b .last .1 .0) (b .last .1 .1 .0) (b .ensures) (i .ensures)
-
-settle-requires : tie.Need-settle-requires
-settle-requires c κs = search needs
-
-same-length : tie.Need-same-length
+same-length : tie.Need-same-length Inv-loop μ-loop
 same-length c = search needs
 
-same-length-2 : tie.Need-same-length-2
+same-length-2 : tie.Need-same-length-2 Inv-loop μ-loop
 same-length-2 c = search needs
 
-same-length-3 : tie.Need-same-length-3
+same-length-3 : tie.Need-same-length-3 Inv-loop μ-loop
 same-length-3 c = search needs
 
-returns-4 : tie.Need-returns-4
-returns-4 c =
-    let k = c .before .before .before .before .before .before .before .before .before .before .before .before .before .before .before .before .before .before .before .before .before .before .before .before .before .before .before .before .before .before .before in
-    let a = k .before .before .before .before .before .before .args in
-    let r = c .before .before .before .before .before .before .before .before .before .before .before .before .before .before .before .read-records in
-    let l = c .before .before .before .before .before .settle in
-    settled (r .result .head) (r .last .1 .1 .0) (r .last .1 .1 .1 .0) (l .last .1 .0) (r .last .1 .1 .1 .1 .0) (l .last .1 .1 .0) (r .last .1 .1 .1 .1 .1 .0) (l .last .1 .1 .1 .0)
-    (r .result .answer) (l .ensures)
-    ∙ r .ensures .0
-    ∙ these-lengths (now (a .bytes)) (now (a .terms)) (now (a .weights)) (now (a .counts)) (k .before .before .if1 .left) (k .before .if2 .left) (k .if3 .left)
+same-length-4 : tie.Need-same-length-4 Inv-loop μ-loop
+same-length-4 c = search needs
+
+returns : tie.Need-returns Inv-loop μ-loop
+returns c =
+    let k = c .before .before .before .before .before .before .before .before .before .before .before .before .before in
+    let o = c .before .before .objection in
+    let l = k .before .before .before .before .before .before .before .before .loop in (
+      made-there (now (start k .args .bytes)) (reached k) _ _ (told-next (reached k .records) (o .given .0 .0))
+          (ends-refused filing (now (start k .args .bytes)) (was k) (reached k) _ (told k _ (o .given .1)) _ (counted k) (under k) (l .inv .7)),
+      k .on-record .ensures (l .inv .5) .1 .fits,
+    )
+
+enum-told : tie.Need-enum-told Inv-loop μ-loop
+enum-told c = search needs
+
+loop-less : tie.Need-loop-less Inv-loop μ-loop
+loop-less c =
+    let k = c .before .before .before .before .before .before .before .before .before .before .before in
+    let i = inside filing (now (start k .args .bytes)) (was k) (reached k) filing-local (told k _ (c .enum-told .given .1)) in
+    let m = i .0 in
+    let n = i .1 in
+    omega arith
+
+loop-again : tie.Need-loop-again Inv-loop μ-loop
+loop-again c =
+    let k = c .before .before .before .before .before .before .before .before .before .before .before in
+    let l = k .before .before .before .before .before .before .before .before .loop in
+    let e = told k _ (c .enum-told .given .1) in (
+      search needs,
+      search needs,
+      search needs,
+      search needs,
+      inside filing (now (start k .args .bytes)) (was k) (reached k) filing-local e .1,
+      k .on-record .ensures (l .inv .5) .1,
+      next-sound (now (start k .args .bytes)) (was k) (reached k) e (l .inv .6),
+      next-leads filing (now (start k .args .bytes)) (was k) (reached k) filing-local e _ (counted k) (under k) (l .inv .7),
+    )
+
+finish-requires : tie.Need-finish-requires Inv-loop μ-loop
+finish-requires c κs =
+    let l = c .before .before .loop in
+    let n = l .inv .5 .counted in
+    let m = l .inv .4 in
+    omega arith
+
+same-length-5 : tie.Need-same-length-5 Inv-loop μ-loop
+same-length-5 c = search needs
+
+same-length-6 : tie.Need-same-length-6 Inv-loop μ-loop
+same-length-6 c = search needs
+
+same-length-7 : tie.Need-same-length-7 Inv-loop μ-loop
+same-length-7 c = search needs
+
+same-length-8 : tie.Need-same-length-8 Inv-loop μ-loop
+same-length-8 c = search needs
+
+returns-2 : tie.Need-returns-2 Inv-loop μ-loop
+returns-2 c =
+    let l = c .before .before .before .loop in
+    let a = c .before .before .before .before .before .before .before .before .before .args in
+    let q : W.Progress State = progressIn (l .p) (l .work) (tableIn (l .order) (l .terms) (l .weights) (l .counts)) in (
+      made-there (now (a .bytes)) q (over filing q .stop) (toldOfFiling (c .finish .result)) (rw (sym (held-none (l .p .work) (l .work) (l .inv .5 .area))) (c .finish .ensures))
+          (ends filing (now (a .bytes)) _ q (c .before .if1 .left) (l .inv .7)),
+      l .inv .5 .fits,
+    )
 
 pub file-problem-spec : {M : Type 1} → statement M
 file-problem-spec =
     tie.close
     (tie.spec
-    turned-away-requires
-    returns
-    turned-away-requires-2
-    returns-2
-    turned-away-requires-3
-    returns-3
-    blank-requires
-    in-turn-requires
-    slice-aggregate-read-records
-    read-records-requires
-    settle-requires
+    Inv-loop
+    μ-loop
+    loop-holds
+    slice-aggregate-on-record
+    on-record-requires
+    enum-known-objection
+    add-t27
     same-length
     same-length-2
     same-length-3
-    returns-4)
+    same-length-4
+    returns
+    enum-told
+    loop-less
+    loop-again
+    finish-requires
+    same-length-5
+    same-length-6
+    same-length-7
+    same-length-8
+    returns-2)

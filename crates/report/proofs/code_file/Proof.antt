@@ -2,7 +2,7 @@
 use mathlib.Core.Path.{ap, _∙_}
 use native.Mathlib.Omega.{arith}
 use borrow.Author.Needs.{needs}
-use Rattle.report.specs.Report.{textOf}
+use Rattle.report.specs.Report.{lineOf}
 use Rattle.report.proofs.Files.{code-too-long, code-fits}
 use Rattle.report.proofs.code_file.Statement.{statement}
 use Rattle.report.proofs.code_file.Tie as tie
@@ -14,13 +14,13 @@ said-requires : tie.Need-said-requires
 said-requires c κs = search needs
 
 returns : tie.Need-returns
-returns c = c .said .ensures ∙ ap textOf (code-too-long (c .before .before .before .before .args .bytes .now) (omega (arith, c .before .before .if1 .taken)))
+returns c = c .said .ensures ∙ ap lineOf (code-too-long (c .before .before .before .before .args .bytes .now) (omega (arith, c .before .before .if1 .taken)))
 
 problem-line-requires : tie.Need-problem-line-requires
 problem-line-requires c κs = search needs
 
 returns-2 : tie.Need-returns-2
-returns-2 c = c .problem-line .ensures ∙ ap textOf (code-fits (c .before .before .before .args .bytes .now) (omega (arith, c .before .if1 .left)))
+returns-2 c = c .problem-line .ensures ∙ ap lineOf (code-fits (c .before .before .before .args .bytes .now) (omega (arith, c .before .if1 .left)))
 
 pub code-file-spec : {M : Type 1} → statement M
 code-file-spec =

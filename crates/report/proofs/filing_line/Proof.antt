@@ -6,13 +6,14 @@ use native.Mathlib.Nat.{zero-add}
 use native.Mathlib.Omega.{arith}
 use lib.ListN.{length, replicate}
 use borrow.Author.Needs.{needs}
+use Rattle.listing.specs.Words.{ascii}
 use Rattle.listing.proofs.Writes.{Still, all-still, next-written, rest-fits, rest-written}
 use Rattle.refusal.specs.Refusal.{numberOf}
 use Rattle.refusal.specs.RefusalLaws.{number-most}
-use Rattle.report.specs.Report.{refusalText, filingText, textOf}
-use Rattle.report.proofs.Texts.{word-problem, refusal-short, by-value}
-use Rattle.problem.specs.Problem.{toldOf}
-use Rattle.problem.specs.declared.Answer.{Answer}
+use Rattle.report.specs.Report.{refusalText, filingText, lineOf}
+use Rattle.report.proofs.Texts.{refusal-short, by-value}
+use Rattle.problem.specs.Problem.{toldOfFiling}
+use Rattle.problem.specs.declared.FilingAnswer.{FilingAnswer}
 use Rattle.report.proofs.filing_line.Statement.{statement}
 use Rattle.report.proofs.filing_line.Tie as tie
 
@@ -20,16 +21,16 @@ use Rattle.report.proofs.filing_line.Tie as tie
 abbrev refused : tie.After-answer → List ℕ
 refused c = refusalText (numberOf (c .answer .given .0 .1 .0)) (c .answer .given .0 .0)
 
-short : (c : tie.After-answer) → length (word-problem ++ refused c) ≤ 64
+short : (c : tie.After-answer) → length (ascii "problem " ++ refused c) ≤ 64
 short c =
     let a = c .answer .given .0 in
     omega (arith, refusal-short (numberOf (a .1 .0)) (a .0) (number-most (a .1 .0)))
 
-said : (c : tie.After-put-bytes) → (let k = c .before .before .before .before in Still (replicate 64 0) 0 (word-problem ++ refused k) (c .put-bytes .last .0) (c .put-bytes .result) (refused k))
+said : (c : tie.After-put-bytes) → (let k = c .before .before .before .before in Still (replicate 64 0) 0 (ascii "problem " ++ refused k) (c .put-bytes .last .0) (c .put-bytes .result) (refused k))
 said c =
     let k = c .before .before .before .before in
-    let whole : List ℕ = word-problem ++ refused k in
-    next-written (replicate 64 0) 0 whole (replicate 64 0) 0 word-problem (refused k) (c .put-bytes .last .0) (c .put-bytes .result)
+    let whole : List ℕ = ascii "problem " ++ refused k in
+    next-written (replicate 64 0) 0 whole (replicate 64 0) 0 (ascii "problem ") (refused k) (c .put-bytes .last .0) (c .put-bytes .result)
     (all-still (replicate 64 0) 0 whole whole refl (omega (arith, short k))) (c .put-bytes .ensures)
 
 enum-known-answer : tie.Need-enum-known-answer
@@ -51,7 +52,7 @@ put-refusal-requires : tie.Need-put-refusal-requires
 put-refusal-requires c κs =
     let k = c .before .before .before .before .before .before in
     let h = c .before .before .put-bytes in
-    rest-fits (replicate 64 0) 0 (word-problem ++ refused k) (h .last .0) (h .result) (refused k) (said (c .before .before))
+    rest-fits (replicate 64 0) 0 (ascii "problem " ++ refused k) (h .last .0) (h .result) (refused k) (said (c .before .before))
 
 enum-told : tie.Need-enum-told
 enum-told c = search needs
@@ -59,15 +60,15 @@ enum-told c = search needs
 returns : tie.Need-returns
 returns c =
     let k = c .before .before .before .before .before .before .before .before in
-    let whole : List ℕ = word-problem ++ refused k in
+    let whole : List ℕ = ascii "problem " ++ refused k in
     let h = c .before .before .before .before .put-bytes in
     let r = c .before .put-refusal in
     let e = rest-written (replicate 64 0) 0 whole (h .last .0) (h .result) (refused k) (r .last .0) (r .result) (said (c .before .before .before .before)) (r .ensures) in
     by-value whole (r .last .0) (r .result) (short k) (e .0 ∙ zero-add (length whole), e .1)
-    ∙ ap (λ (x : Answer). textOf (filingText (toldOf x))) (sym (k .answer .given .1))
+    ∙ ap (λ (x : FilingAnswer). lineOf (filingText (toldOfFiling x))) (sym (k .answer .given .1))
 
 returns-2 : tie.Need-returns-2
-returns-2 c = ap (λ (x : Answer). textOf (filingText (toldOf x))) (sym (c .enum-told .given .1))
+returns-2 c = ap (λ (x : FilingAnswer). lineOf (filingText (toldOfFiling x))) (sym (c .enum-told .given .1))
 
 pub filing-line-spec : {M : Type 1} → statement M
 filing-line-spec =

@@ -10,11 +10,11 @@ use mir.Val.{toZ, ofZ}
 use borrow.Author.Needs.{needs}
 use Rattle.refusal.specs.Refusal.{numberOf}
 use Rattle.refusal.specs.RefusalLaws.{number-most}
-use Rattle.report.specs.Report.{refusalText, confirmedText, verdictText, textOf}
+use Rattle.report.specs.Report.{refusalText, confirmedText, verdictText, lineOf}
 use Rattle.report.proofs.Texts.{refusal-short, confirmed-short, by-value}
-use Rattle.configuration.proofs.Areas.{read-back}
-use Rattle.derivation.specs.Derivation.{toldOf}
-use Rattle.derivation.specs.declared.Answer.{Answer}
+use Rattle.configuration.proofs.Weights.{read-back}
+use Rattle.derivation.specs.Derivation.{toldOfCheck}
+use Rattle.derivation.specs.declared.CheckAnswer.{CheckAnswer}
 use Rattle.report.proofs.verdict_line.Statement.{statement}
 use Rattle.report.proofs.verdict_line.Tie as tie
 
@@ -47,8 +47,8 @@ returns c =
     let d : ℕ = a .0 .1 .0 in
     let h = c .before .put-confirmation in
     by-value (confirmedText (toZ w64 (ofZ w64 w)) d) (h .last .0) (h .result) (omega (arith, confirmed-short (toZ w64 (ofZ w64 w)) d)) (h .ensures)
-    ∙ ap (λ (z : ℤ). textOf (confirmedText z d)) (read-back w (search needs))
-    ∙ ap (λ (x : Answer). textOf (verdictText (toldOf x))) (sym (a .1))
+    ∙ ap (λ (z : ℤ). lineOf (confirmedText z d)) (read-back w (search needs))
+    ∙ ap (λ (x : CheckAnswer). lineOf (verdictText (toldOfCheck x))) (sym (a .1))
 
 returns-2 : tie.Need-returns-2
 returns-2 c =
@@ -57,7 +57,7 @@ returns-2 c =
     let h = c .before .put-refusal in
     by-value (refusalText n (a .0 .0)) (h .last .0) (h .result) (omega (arith, refusal-short n (a .0 .0) (number-most (a .0 .1 .0))))
     (h .ensures .0 ∙ zero-add (length (refusalText n (a .0 .0))), h .ensures .1)
-    ∙ ap (λ (x : Answer). textOf (verdictText (toldOf x))) (sym (a .1))
+    ∙ ap (λ (x : CheckAnswer). lineOf (verdictText (toldOfCheck x))) (sym (a .1))
 
 pub verdict-line-spec : {M : Type 1} → statement M
 verdict-line-spec =

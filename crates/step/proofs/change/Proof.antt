@@ -9,12 +9,13 @@ use denote.Ref.{now}
 use mir.Facts.{toZ-ofZ}
 use borrow.Author.Needs.{needs}
 use borrow.Author.Tests.{not-true, not-false}
+use Rattle.refusal.specs.Outcome.{Outcome, unless, after}
 use Rattle.configuration.specs.Configuration.{Line, addAll}
-use Rattle.configuration.specs.Replacement.{Step, Small, unless, within}
+use Rattle.configuration.specs.Limits.{within}
+use Rattle.replacement.specs.Passes.{Small}
 use Rattle.calculus.specs.Calculus.{changes}
 use Rattle.table.specs.Rows.{Table, linesOf, Fits}
 use Rattle.table.specs.RowsLaws.{fresh-fits, four-order}
-use Rattle.table.specs.Replacing.{after, replaced}
 use Rattle.step.specs.Stepping.{HasPlan}
 use Rattle.step.proofs.Plans.{made-lines, small-folded, changed-is}
 use Rattle.step.proofs.change.Statement.{statement}
@@ -28,7 +29,7 @@ abbrev ruled : tie.Start → List Line
 ruled s = changes (s .args .rule) (now (s .args .f)) (now (s .args .g)) (s .args .amount)
 
 -- what follows the plan, by whether the results are short enough
-abbrev rest-if : tie.Start → Bool → Step
+abbrev rest-if : tie.Start → Bool → Outcome (List Line)
 rest-if s b = unless b 7 (within (addAll (ruled s) (linesOf (table s))))
 
 -- the table of four that is lent: it has no line
@@ -106,9 +107,6 @@ replace-requires c κs =
     let a = s .args in
     (s .pre .0, s .pre .1, planned (plan k) .1 .1, subst (Small 45) (sym (four-lines k)) (small-folded (a .rule) (now (a .f)) (now (a .g)) (a .amount) (s .pre .4)))
 
-objection-of-requires : tie.Need-objection-of-requires
-objection-of-requires c κs = search needs
-
 same-length : tie.Need-same-length
 same-length c = search needs
 
@@ -124,13 +122,13 @@ same-length-4 c = search needs
 -- the replacement, and what it leaves
 returns-2 : tie.Need-returns-2
 returns-2 c =
-    let d = c .before .before .before .before .before .before .before .before in
+    let d = c .before .before .before .before .before .before .before in
     let k = d .before .before .before .before .before .before .before .before .before in
     let s = start (plan k) in
+    let L = linesOf (table s) in
     let r = d .replace in (
-      changed-is (ruled s) (linesOf (table s)) _ (r .result .verdict) (c .objection-of .result) (s .pre .0 .ordered)
-          (r .ensures .0 ∙ ap (λ (N : List Line). replaced N (linesOf (table s))) (four-lines k)) (c .objection-of .ensures)
-          ∙ ap (λ (b : Bool). after (linesOf (table s)) (rest-if s b)) (sym (fits k) ∙ planned (plan k) .0),
+      r .ensures .0 ∙ ap (λ (N : List Line). after L (within (addAll N L))) (four-lines k) ∙ changed-is (ruled s) L (s .pre .0 .ordered)
+          ∙ ap (λ (b : Bool). after L (rest-if s b)) (sym (fits k) ∙ planned (plan k) .0),
       r .ensures .1,
     )
 
@@ -149,7 +147,6 @@ change-spec =
     slice-aggregate-replace-3
     slice-aggregate-replace-4
     replace-requires
-    objection-of-requires
     same-length
     same-length-2
     same-length-3

@@ -4,7 +4,7 @@ use mir.Syntax.{w64}
 use mir.Facts.{toZ-ofZ}
 use Rattle.table.specs.RowsLaws.{of-capacity}
 use Rattle.table.proofs.Searches.{some-of}
-use Rattle.calculus.proofs.Steps.{held-nothing, held-some}
+use Rattle.step.proofs.Asked.{held-nothing, held-some}
 use Rattle.step.proofs.is_held.Statement.{statement}
 use Rattle.step.proofs.is_held.Tie as tie
 

@@ -19,8 +19,8 @@ use Rattle.configuration.specs.Configuration.{Line}
 use Rattle.table.specs.Rows.{linesOf}
 use Rattle.calculus.specs.Calculus.{premises, there}
 use Rattle.calculus.specs.declared.Rule.{Rule}
-use Rattle.calculus.proofs.Plans.{doubled-fits}
-use Rattle.calculus.proofs.Steps.{enough, asked-once, asked-twice, asked-each}
+use Rattle.step.proofs.Amounts.{doubled-fits}
+use Rattle.step.proofs.Asked.{enough, asked-once, asked-twice, asked-each}
 use Rattle.step.proofs.is_there.Statement.{statement}
 use Rattle.step.proofs.is_there.Tie as tie
 use types.Run.{OneOf}

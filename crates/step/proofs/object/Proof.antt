@@ -13,7 +13,8 @@ use Rattle.table.specs.Rows.{Table, linesOf}
 use Rattle.table.specs.RowsLaws.{once-weights}
 use Rattle.calculus.specs.Calculus.{premises, isPlain, amountFits, there}
 use Rattle.calculus.specs.declared.Mode.the-variants.{Plain}
-use Rattle.calculus.proofs.Steps.{plain-tests, signed-passes, amount-in-range}
+use Rattle.step.proofs.Amounts.{amount-in-range}
+use Rattle.step.proofs.Tests.{plain-tests, signed-passes}
 use Rattle.step.proofs.object.Statement.{statement}
 use Rattle.step.proofs.object.Tie as tie
 

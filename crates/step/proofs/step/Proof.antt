@@ -1,17 +1,17 @@
 -- `step` meets its contract: what is found against the step stands in front of the rest of it.
 use mathlib.Core.Path.{_≡_, sym, ap, _∙_}
+use mathlib.Core.List.{List}
 use lib.Dec.{T}
 use denote.Ref.{now}
 use mir.Facts.{toZ-ofZ}
 use borrow.Author.Needs.{needs}
+use Rattle.refusal.specs.Outcome.{Outcome, after, objected}
+use Rattle.refusal.specs.declared.Objection.{Objection}
 use Rattle.configuration.specs.Weight.{inRange}
-use Rattle.configuration.specs.Replacement.{Step}
-use Rattle.calculus.specs.Calculus.{changed, step, objected}
-use Rattle.calculus.specs.declared.Objection.{Objection}
-use Rattle.calculus.proofs.Steps.{Judged, objected-is, in-range}
+use Rattle.configuration.specs.Configuration.{Line}
+use Rattle.calculus.specs.Calculus.{changed, step}
 use Rattle.table.specs.Rows.{Table, linesOf}
-use Rattle.table.specs.Replacing.{after}
-use Rattle.step.specs.Stepping.{steppedOf}
+use Rattle.step.proofs.Tests.{Judged, objected-is, in-range}
 use Rattle.step.proofs.step.Statement.{statement}
 use Rattle.step.proofs.step.Tie as tie
 
@@ -19,7 +19,7 @@ abbrev table : tie.Start → Table
 table s = let a = s .args in record { lines = a .lines; order = now (a .order); terms = now (a .terms); weights = now (a .weights); counts = now (a .counts) }
 
 -- what follows the tests of the mode
-abbrev rest-of : tie.Start → Step
+abbrev rest-of : tie.Start → Outcome (List Line)
 rest-of s = let a = s .args in changed (a .rule) (now (a .f)) (now (a .g)) (a .amount) (linesOf (table s))
 
 -- ---- what is found against the step

@@ -7,7 +7,7 @@ use lib.ListN.{length, drop}
 use borrow.Author.Needs.{needs}
 use borrow.Author.Tests.{not-true, not-false}
 use Rattle.configuration.specs.Configuration.{below}
-use Rattle.configuration.proofs.Areas.{stops, goes-on, ends}
+use Rattle.configuration.proofs.Tests.{stops, goes-on, ends}
 use Rattle.configuration.proofs.form.is_below.Statement.{statement}
 use Rattle.configuration.proofs.form.is_below.Tie as tie
 

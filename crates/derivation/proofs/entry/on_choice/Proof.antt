@@ -10,7 +10,7 @@ use borrow.Author.Tests.{not-true, not-false}
 use borrow.Author.Needs.{needs}
 use Rattle.refusal.specs.declared.Reason.the-variants.{Misplaced}
 use Rattle.derivation.specs.Derivation.{onChoice}
-use Rattle.derivation.specs.Held.{progressOf}
+use Rattle.derivation.specs.Held.{progressIn}
 use Rattle.derivation.proofs.Entries.{turned-down, choice-misplaced, choice-again, choice-up}
 use Rattle.derivation.proofs.entry.on_choice.Statement.{statement}
 use Rattle.derivation.proofs.entry.on_choice.Tie as tie
@@ -22,38 +22,26 @@ refused-requires : tie.Need-refused-requires
 refused-requires c κs = search needs
 
 returns : tie.Need-returns
-returns c =
+returns c t held =
     let a = c .before .before .before .before .before .args in
-    let p = a .p in
-    let n = p .head .variables in
     let fs = now (a .first) in
     let us = now (a .work) in
-    let r = c .refused in
-    let k = sym (c .before .before .is-going .ensures) ∙ not-true (c .before .before .is-going .result) (c .before .if1 .taken) in (
-      λ is ts ws cs ready. turned-down n p fs us is ts ws cs ready Misplaced (r .result) (r .ensures) (onChoice (progressOf p fs us is ts ws cs))
-          (choice-misplaced p fs us is ts ws cs k) .0,
-      λ is ts ws cs ready. turned-down n p fs us is ts ws cs ready Misplaced (r .result) (r .ensures) (onChoice (progressOf p fs us is ts ws cs))
-          (choice-misplaced p fs us is ts ws cs k) .1,
-    )
+    let g = c .before .before .is-going in
+    let k = sym (g .ensures) ∙ not-true (g .result) (c .before .if1 .taken) in
+    turned-down (a .p) fs us t held Misplaced (c .refused .result) (c .refused .ensures) (onChoice (progressIn (a .p) fs us t)) (choice-misplaced (a .p) fs us t k)
 
 refused-requires-2 : tie.Need-refused-requires-2
 refused-requires-2 c κs = search needs
 
 returns-2 : tie.Need-returns-2
-returns-2 c =
+returns-2 c t held =
     let a = c .before .before .before .before .before .before .args in
-    let p = a .p in
-    let n = p .head .variables in
     let fs = now (a .first) in
     let us = now (a .work) in
-    let r = c .refused2 in
     let g = c .before .before .before .is-going in
-    let k = sym (g .ensures) ∙ not-false (g .result) (c .before .before .if1 .left) in (
-      λ is ts ws cs ready. turned-down n p fs us is ts ws cs ready Misplaced (r .result) (r .ensures) (onChoice (progressOf p fs us is ts ws cs))
-          (choice-again p fs us is ts ws cs k (c .before .if2 .taken)) .0,
-      λ is ts ws cs ready. turned-down n p fs us is ts ws cs ready Misplaced (r .result) (r .ensures) (onChoice (progressOf p fs us is ts ws cs))
-          (choice-again p fs us is ts ws cs k (c .before .if2 .taken)) .1,
-    )
+    let k = sym (g .ensures) ∙ not-false (g .result) (c .before .before .if1 .left) in
+    turned-down (a .p) fs us t held Misplaced (c .refused2 .result) (c .refused2 .ensures) (onChoice (progressIn (a .p) fs us t))
+    (choice-again (a .p) fs us t k (c .before .if2 .taken))
 
 -- ---- the terms of the work polynomial, written to the front of the other area
 abbrev work : tie.Start → List ℕ
@@ -78,24 +66,15 @@ same-length : tie.Need-same-length
 same-length c = search needs
 
 returns-3 : tie.Need-returns-3
-returns-3 c =
+returns-3 c t held =
     let s = c .before .before .before .before .before .before .before .before .before .before .before in
     let a = s .args in
-    let p = a .p in
-    let n = p .head .variables in
-    let fs = now (a .first) in
-    let us = now (a .work) in
     let g = c .before .before .before .before .before .before .before .before .is-going in
     let k = sym (g .ensures) ∙ not-false (g .result) (c .before .before .before .before .before .before .before .if1 .left) in
-    let u = c .before .before .before .before .before .before .if2 .left in
     let d = c .before .before .before .write in
     let gs = d .last .0 in
-    let l = d .kept .0 ∙ s .pre .2 in
-    let e = written s gs _ (d .ensures) in
-    let r = c .accepted in (
-      λ is ts ws cs ready. choice-up p fs us is ts ws cs k u n gs e l ready (r .result) (r .ensures) .0,
-      λ is ts ws cs ready. choice-up p fs us is ts ws cs k u n gs e l ready (r .result) (r .ensures) .1,
-    )
+    choice-up (a .p) (now (a .first)) (now (a .work)) t k (c .before .before .before .before .before .before .if2 .left) gs (written s gs _ (d .ensures)) (d .kept .0 ∙ s .pre .2) held
+    (c .accepted .result) (c .accepted .ensures)
 
 pub on-choice-spec : {M : Type 1} → statement M
 on-choice-spec =

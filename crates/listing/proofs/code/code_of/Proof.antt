@@ -4,28 +4,28 @@ use Prim.Native.Nat.{ℕ, suc, _-_, _≤_}
 use native.Mathlib.Omega.{arith}
 use lib.ListN.{length, length-replicate}
 use lib.Seq.{length-take-le}
-use denote.Ref.{now}
 use borrow.Author.Needs.{needs}
+use Rattle.table.specs.Rows.{Table, tableAt, linesOf}
+use Rattle.listing.specs.Code.{codeOf}
+use Rattle.listing.specs.CodeLaws.{codesFrom}
 use Rattle.listing.proofs.Codes.{all-left, one-less, none-left}
-use Rattle.configuration.specs.Memory.{Memory, memoryOf, linesOf, linesIn}
-use Rattle.listing.specs.Code.{codeOf, codesFrom}
 use Rattle.listing.proofs.code.code_of.Statement.{statement}
 use Rattle.listing.proofs.code.code_of.Tie as tie
 
 -- the texts that are left, added to the code that is there, give the code of the whole
 abbrev Inv-loop : tie.InvT-loop
-Inv-loop head terms weights counts lines text₀ code₀ number₀ text code number =
-    (codesFrom (suc lines - number) number code (head .variables) (linesIn head terms weights counts) ≡ codeOf (head .variables) (linesIn head terms weights counts))
-    × (number ≤ suc lines) × (length text ≡ 8448)
+Inv-loop variables lines order terms weights counts text₀ code₀ number₀ text code number =
+    let L = linesOf (record { lines = lines; order = order; terms = terms; weights = weights; counts = counts }) in
+    (codesFrom (suc lines - number) number code variables L ≡ codeOf variables L) × (number ≤ suc lines) × (length text ≡ 8448)
 
 abbrev μ-loop : tie.MeasureT-loop
-μ-loop head terms weights counts lines text₀ code₀ number₀ text code number = suc lines - number
+μ-loop variables lines order terms weights counts text₀ code₀ number₀ text code number = suc lines - number
 
-abbrev memory : tie.Start Inv-loop μ-loop → Memory
-memory s = memoryOf (s .args .head) (now (s .args .terms)) (now (s .args .weights)) (now (s .args .counts))
+abbrev table : tie.Start Inv-loop μ-loop → Table
+table s = let a = s .args in tableAt (a .lines) (a .order) (a .terms) (a .weights) (a .counts)
 
-cast-lines : tie.Need-cast-lines Inv-loop μ-loop
-cast-lines c = search needs
+abbrev at-start : tie.At-loop Inv-loop μ-loop → tie.Start Inv-loop μ-loop
+at-start k = k .before .before .before .before .before
 
 start-requires : tie.Need-start-requires Inv-loop μ-loop
 start-requires c κs = search needs
@@ -33,15 +33,15 @@ start-requires c κs = search needs
 loop-holds : tie.Need-loop-holds Inv-loop μ-loop
 loop-holds c =
     let s = c .before .before .before .before in
-    (all-left (memory s) (c .start .result) (s .pre) (c .start .ensures), omega arith, length-replicate {A = ℕ} 8448 0)
+    (all-left (s .args .variables) (s .pre) (c .start .result) (c .start .ensures), omega arith, length-replicate {A = ℕ} 8448 0)
 
 slice-aggregate-put-text : tie.Need-slice-aggregate-put-text Inv-loop μ-loop
 slice-aggregate-put-text c = search needs
 
 put-text-requires : tie.Need-put-text-requires Inv-loop μ-loop
 put-text-requires c κs =
-    let l = c .before .before in
-    (l .before .before .before .before .before .pre, omega (arith, c .before .loop-test .taken), omega (arith, l .loop .inv .2))
+    let k = c .before .before in
+    (at-start k .pre, omega (arith, c .before .loop-test .taken), omega (arith, k .loop .inv .2))
 
 array-share-prefix-text : tie.Need-array-share-prefix-text Inv-loop μ-loop
 array-share-prefix-text c = search needs
@@ -62,22 +62,22 @@ loop-less c = search needs
 
 loop-again : tie.Need-loop-again Inv-loop μ-loop
 loop-again c =
-    let k = c .before .before .before .before .before in
-    let l = k .before in
-    let s = l .before .before .before .before .before in
+    let i = c .before .before .before .before .before in
+    let k = i .before in
+    let s = at-start k in
     let p = c .before .before .before .put-text in (
-      one-less (s .args .head .lines) (l .loop .number) (l .loop .code) (s .args .head .variables) (linesOf (memory s)) (l .loop .text) (p .last .0) (p .result)
-          (c .add-bytes .result) (omega (arith, k .loop-test .taken)) (p .ensures .0) (p .ensures .1 .0) (c .add-bytes .ensures)
-          ∙ l .loop .inv .0,
-      omega (arith, k .loop-test .taken),
-      p .kept .0 ∙ l .loop .inv .2,
+      one-less (s .args .lines) (k .loop .number) (k .loop .code) (s .args .variables) (linesOf (table s)) (k .loop .text) (p .last .0) (p .result) (c .add-bytes .result)
+          (omega (arith, i .loop-test .taken)) (p .ensures .0) (p .ensures .1 .0) (c .add-bytes .ensures)
+          ∙ k .loop .inv .0,
+      omega (arith, i .loop-test .taken),
+      p .kept .0 ∙ k .loop .inv .2,
     )
 
 returns : tie.Need-returns Inv-loop μ-loop
 returns c =
-    let l = c .before in
-    let s = l .before .before .before .before .before in
-    sym (none-left (s .args .head .lines) (l .loop .number) (l .loop .code) (s .args .head .variables) (linesOf (memory s)) (c .loop-test .left)) ∙ l .loop .inv .0
+    let k = c .before in
+    let s = at-start k in
+    sym (none-left (s .args .lines) (k .loop .number) (k .loop .code) (s .args .variables) (linesOf (table s)) (c .loop-test .left)) ∙ k .loop .inv .0
 
 pub code-of-spec : {M : Type 1} → statement M
 code-of-spec =
@@ -85,7 +85,6 @@ code-of-spec =
     (tie.spec
     Inv-loop
     μ-loop
-    cast-lines
     start-requires
     loop-holds
     slice-aggregate-put-text

@@ -5,7 +5,7 @@ use native.Mathlib.Omega.{arith}
 use borrow.Author.Needs.{needs}
 use borrow.Fn.Kinds.{In}
 use borrow.Fn.PlainCycle.{Measures, is, falls, and}
-use Rattle.listing.specs.Listing.{decimal}
+use Rattle.listing.specs.Listing.{decimalDigit, decimal}
 use Rattle.listing.proofs.Decimals.{last-digit}
 use Rattle.listing.proofs.Writes.{Still, all-still, next-fits, next-written, rest-written}
 use Rattle.listing.proofs.text.+put_decimal.{statement}
@@ -34,19 +34,19 @@ claims t = (put-small-reads.Asked, put-small-reads.Learnt, put-decimal-below t, 
 -- a number of more than two digits is still to be written
 begun : (t : ℕ) (c : put-decimal-lts.Else1 (claims t) (put-decimal-at t) put-decimal.Post)
     → (let a = c .before .before .args in
-    Still (a .out .now) (a .at) (decimal (a .n)) (a .out .now) (a .at) (decimal (a .n / 10) ++ ((48 + a .n % 10) ∷ [])))
+    Still (a .out .now) (a .at) (decimal (a .n)) (a .out .now) (a .at) (decimal (a .n / 10) ++ (decimalDigit (a .n % 10) ∷ [])))
 begun t c =
     let s = c .before .before in
     let a = s .args in
-    all-still (a .out .now) (a .at) (decimal (a .n)) (decimal (a .n / 10) ++ ((48 + a .n % 10) ∷ [])) (last-digit (a .n) (omega arith) (s .fits .n .fits)) (s .pre .1)
+    all-still (a .out .now) (a .at) (decimal (a .n)) (decimal (a .n / 10) ++ (decimalDigit (a .n % 10) ∷ [])) (last-digit (a .n) (omega arith) (s .fits .n .fits)) (s .pre .1)
 
--- its last digit is
+-- its last decimalDigit is
 halfway : (t : ℕ) (c : put-decimal-lts.After-put-decimal (claims t) (put-decimal-at t) put-decimal.Post)
     → (let a = c .before .before .before .before .args in
-    Still (a .out .now) (a .at) (decimal (a .n)) (c .put-decimal .last .0) (c .put-decimal .result) ((48 + a .n % 10) ∷ []))
+    Still (a .out .now) (a .at) (decimal (a .n)) (c .put-decimal .last .0) (c .put-decimal .result) (decimalDigit (a .n % 10) ∷ []))
 halfway t c =
     let a = c .before .before .before .before .args in
-    next-written (a .out .now) (a .at) (decimal (a .n)) (a .out .now) (a .at) (decimal (a .n / 10)) ((48 + a .n % 10) ∷ []) (c .put-decimal .last .0) (c .put-decimal .result)
+    next-written (a .out .now) (a .at) (decimal (a .n)) (a .out .now) (a .at) (decimal (a .n / 10)) (decimalDigit (a .n % 10) ∷ []) (c .put-decimal .last .0) (c .put-decimal .result)
     (begun t (c .before .before)) (c .put-decimal .ensures)
 
 put-decimal-cast-put-small : (t : ℕ) → put-decimal-lts.Need-cast-put-small (claims t) (put-decimal-at t) put-decimal.Post
@@ -64,7 +64,7 @@ put-decimal-returns t c = search needs
 put-decimal-put-decimal-requires : (t : ℕ) → put-decimal-lts.Need-put-decimal-requires (claims t) (put-decimal-at t) put-decimal.Post
 put-decimal-put-decimal-requires t c κs =
     let a = c .before .before .before .args in
-    (omega arith, next-fits (a .out .now) (a .at) (decimal (a .n)) (a .out .now) (a .at) (decimal (a .n / 10)) ((48 + a .n % 10) ∷ []) (begun t (c .before)))
+    (omega arith, next-fits (a .out .now) (a .at) (decimal (a .n)) (a .out .now) (a .at) (decimal (a .n / 10)) (decimalDigit (a .n % 10) ∷ []) (begun t (c .before)))
 
 put-decimal-cast-put-byte : (t : ℕ) → put-decimal-lts.Need-cast-put-byte (claims t) (put-decimal-at t) put-decimal.Post
 put-decimal-cast-put-byte t c = search needs
@@ -82,7 +82,7 @@ put-decimal-returns-2 : (t : ℕ) → put-decimal-lts.Need-returns-2 (claims t) 
 put-decimal-returns-2 t c =
     let a = c .before .before .before .before .before .before .before .before .before .before .args in
     let h = c .before .before .before .before .before .before .put-decimal in
-    rest-written (a .out .now) (a .at) (decimal (a .n)) (h .last .0) (h .result) ((48 + a .n % 10) ∷ []) (c .before .before .put-byte .last .0)
+    rest-written (a .out .now) (a .at) (decimal (a .n)) (h .last .0) (h .result) (decimalDigit (a .n % 10) ∷ []) (c .before .before .put-byte .last .0)
     (c .before .before .put-byte .result) (halfway t (c .before .before .before .before .before .before))
     (c .before .before .put-byte .ensures)
 

@@ -2,41 +2,42 @@
 use mathlib.Core.Path.{ap, _∙_}
 use mathlib.Core.Bool.{Bool}
 use mathlib.Core.Logic.{⊎-elim}
-use mathlib.Core.List.{List, [], _∷_, _++_}
+use mathlib.Core.List.{List, _++_}
 use Prim.Native.Nat.{ℕ}
 use native.Mathlib.Omega.{arith}
 use borrow.Author.Tests.{not-true, not-false}
-use Rattle.listing.specs.Listing.{decimal}
+use Rattle.listing.specs.Words.{ascii}
+use Rattle.listing.specs.Listing.{decimal, nameText}
 use Rattle.listing.specs.Writing.{starred}
 use Rattle.listing.proofs.Writes.{Still, all-still, next-written, rest-written}
 use Rattle.listing.proofs.text.put_name.Statement.{statement}
 use Rattle.listing.proofs.text.put_name.Tie as tie
 
 abbrev whole : tie.Start → List ℕ
-whole s = starred (s .args .first) (120 ∷ decimal (s .args .i))
+whole s = starred (s .args .first) (nameText (s .args .i))
 
 -- behind another name the asterisk is still to be written
 begun : (c : tie.Then1)
-    → (let a = c .before .before .args in Still (a .out .now) (a .at) (whole (c .before .before)) (a .out .now) (a .at) ((42 ∷ []) ++ (120 ∷ decimal (a .i))))
+    → (let a = c .before .before .args in Still (a .out .now) (a .at) (whole (c .before .before)) (a .out .now) (a .at) (ascii "*" ++ nameText (a .i)))
 begun c =
     let s = c .before .before in
     let a = s .args in
-    all-still (a .out .now) (a .at) (whole s) ((42 ∷ []) ++ (120 ∷ decimal (a .i)))
-    (ap (λ (b : Bool). starred b (120 ∷ decimal (a .i))) (not-true (a .first) (c .if1 .taken))) (s .pre .1)
+    all-still (a .out .now) (a .at) (whole s) (ascii "*" ++ nameText (a .i))
+    (ap (λ (b : Bool). starred b (nameText (a .i))) (not-true (a .first) (c .if1 .taken))) (s .pre .1)
 
 -- the name is
 parted : (c : tie.Joined1)
-    → (let a = c .before .before .args in Still (a .out .now) (a .at) (whole (c .before .before)) (c .if1 .out) (c .if1 .name) (120 ∷ decimal (a .i)))
+    → (let a = c .before .before .args in Still (a .out .now) (a .at) (whole (c .before .before)) (c .if1 .out) (c .if1 .name) (nameText (a .i)))
 parted c =
     let s = c .before .before in
     let a = s .args in
     ⊎-elim
     (λ w.
-    next-written (a .out .now) (a .at) (whole s) (a .out .now) (a .at) (42 ∷ []) (120 ∷ decimal (a .i)) (c .if1 .out) (c .if1 .name) (begun (record { before = c .before; if1 = w .0 }))
+    next-written (a .out .now) (a .at) (whole s) (a .out .now) (a .at) (ascii "*") (nameText (a .i)) (c .if1 .out) (c .if1 .name) (begun (record { before = c .before; if1 = w .0 }))
     (w .6 ∙ w .2 .ensures .0, w .5 ∙ w .2 .ensures .1))
     (λ w.
     rw (w .1, w .2)
-    (all-still (a .out .now) (a .at) (whole s) (120 ∷ decimal (a .i)) (ap (λ (b : Bool). starred b (120 ∷ decimal (a .i))) (not-false (a .first) (w .0 .left))) (s .pre .1)))
+    (all-still (a .out .now) (a .at) (whole s) (nameText (a .i)) (ap (λ (b : Bool). starred b (nameText (a .i))) (not-false (a .first) (w .0 .left))) (s .pre .1)))
     (c .if1 .came)
 
 numbered : (c : tie.After-put-byte2)
@@ -45,7 +46,7 @@ numbered c =
     let s = c .before .before .before .before in
     let a = s .args in
     let j = c .before .before .if1 in
-    next-written (a .out .now) (a .at) (whole s) (j .out) (j .name) (120 ∷ []) (decimal (a .i)) (c .put-byte2 .last .0) (c .put-byte2 .result) (parted (c .before .before))
+    next-written (a .out .now) (a .at) (whole s) (j .out) (j .name) (ascii "x") (decimal (a .i)) (c .put-byte2 .last .0) (c .put-byte2 .result) (parted (c .before .before))
     (c .put-byte2 .ensures)
 
 put-byte-requires : tie.Need-put-byte-requires

@@ -1,11 +1,11 @@
 -- `put_names` meets its contract. The invariant: the names that are left, written behind what stands, are the whole.
 use mathlib.Core.Bool.{false}
-use mathlib.Core.List.{List, [], _∷_, _++_}
+use mathlib.Core.List.{List, _++_}
 use Prim.Native.Nat.{ℕ, _+_, _-_, _/_, _^_, _≤_, _<_}
 use native.Mathlib.Omega.{arith}
 use lib.Count.{trailingZeros}
 use borrow.Author.Needs.{needs}
-use Rattle.listing.specs.Listing.{joined, namesFrom, decimal}
+use Rattle.listing.specs.Listing.{nameText, namesFrom, namesText}
 use Rattle.listing.specs.Writing.{starred}
 use Rattle.listing.proofs.Names.{names, There, name-there, names-over}
 use Rattle.listing.proofs.Writes.{Still, still-as, next-fits, next-written, none-left}
@@ -14,7 +14,7 @@ use Rattle.listing.proofs.text.put_names.Tie as tie
 
 abbrev Inv-loop : tie.InvT-loop
 Inv-loop out₀ at mask end₀ first₀ rest₀ i₀ out end first rest i =
-    (i ≤ 32) × (rest < 2 ^ (32 - i)) × Still out₀ at (joined (42 ∷ []) (namesFrom 32 1 mask)) out end (names first (namesFrom (32 - i) (i + 1) rest))
+    (i ≤ 32) × (rest < 2 ^ (32 - i)) × Still out₀ at (namesText mask) out end (names first (namesFrom (32 - i) (i + 1) rest))
 
 abbrev μ-loop : tie.MeasureT-loop
 μ-loop out₀ at mask end₀ first₀ rest₀ i₀ out end first rest i = 32 - i
@@ -27,7 +27,7 @@ abbrev later : tie.In-loop Inv-loop μ-loop → ℕ
 later c = c .before .loop .rest / 2 ^ trailingZeros 32 (c .before .loop .rest) / 2
 
 abbrev name : tie.In-loop Inv-loop μ-loop → List ℕ
-name c = starred (c .before .loop .first) (120 ∷ decimal (number c))
+name c = starred (c .before .loop .first) (nameText (number c))
 
 abbrev others : tie.In-loop Inv-loop μ-loop → List ℕ
 others c = names false (namesFrom (32 - number c) (number c + 1) (later c))
@@ -41,11 +41,11 @@ there c =
 begun : (c : tie.In-loop Inv-loop μ-loop)
     → (let a = c .before .before .before .args in
     let l = c .before .loop in
-    Still (a .out .now) (a .at) (joined (42 ∷ []) (namesFrom 32 1 (a .mask))) (l .out) (l .end) (name c ++ others c))
+    Still (a .out .now) (a .at) (namesText (a .mask)) (l .out) (l .end) (name c ++ others c))
 begun c =
     let a = c .before .before .before .args in
     let l = c .before .loop in
-    still-as (a .out .now) (a .at) (joined (42 ∷ []) (namesFrom 32 1 (a .mask))) (l .out) (l .end)
+    still-as (a .out .now) (a .at) (namesText (a .mask)) (l .out) (l .end)
     (names (l .first) (namesFrom (32 - l .i) (l .i + 1) (l .rest))) (name c ++ others c) (there c .text) (l .inv .2)
 
 loop-holds : tie.Need-loop-holds Inv-loop μ-loop
@@ -65,7 +65,7 @@ put-name-requires c κs =
     let k = c .before in
     let a = k .before .before .before .args in
     let l = k .before .loop in
-    let whole : List ℕ = joined (42 ∷ []) (namesFrom 32 1 (a .mask)) in
+    let whole : List ℕ = namesText (a .mask) in
     (omega (arith, there k .within), next-fits (a .out .now) (a .at) whole (l .out) (l .end) (name k) (others k) (begun k))
 
 shr-rest : tie.Need-shr-rest Inv-loop μ-loop
@@ -80,7 +80,7 @@ loop-again c =
     let a = k .before .before .before .args in
     let l = k .before .loop in
     let p = c .before .before .put-name in
-    let whole : List ℕ = joined (42 ∷ []) (namesFrom 32 1 (a .mask)) in (
+    let whole : List ℕ = namesText (a .mask) in (
       there k .within,
       there k .small,
       next-written (a .out .now) (a .at) whole (l .out) (l .end) (name k) (others k) (p .last .0) (p .result) (begun k) (p .ensures),
@@ -93,7 +93,7 @@ returns : tie.Need-returns Inv-loop μ-loop
 returns c =
     let a = c .before .before .before .args in
     let l = c .before .loop in
-    none-left (a .out .now) (a .at) (joined (42 ∷ []) (namesFrom 32 1 (a .mask))) (l .out) (l .end)
+    none-left (a .out .now) (a .at) (namesText (a .mask)) (l .out) (l .end)
     (names (l .first) (namesFrom (32 - l .i) (l .i + 1) (l .rest)))
     (names-over (l .first) (32 - l .i) (l .i + 1) (l .rest) (omega arith)) (l .inv .2)
 

@@ -1,11 +1,11 @@
 -- `put_small` meets its contract: one digit, or two.
 use mathlib.Core.Path.{sym, ap}
 use mathlib.Core.List.{[], _∷_}
-use Prim.Native.Nat.{_+_, _/_, _%_}
+use Prim.Native.Nat.{_/_, _%_}
 use native.Mathlib.Omega.{arith}
 use lib.ListN.{length}
 use borrow.Author.Needs.{needs}
-use Rattle.listing.specs.Listing.{decimal}
+use Rattle.listing.specs.Listing.{decimalDigit, decimal}
 use Rattle.listing.proofs.Decimals.{one-digit, two-digits}
 use Rattle.listing.proofs.Writes.{Still, all-still, next-written, rest-written, as-text}
 use Rattle.listing.proofs.text.put_small.Statement.{statement}
@@ -13,18 +13,18 @@ use Rattle.listing.proofs.text.put_small.Tie as tie
 
 -- two digits are still to be written, and then the last one
 begun : (c : tie.Else1)
-    → (let a = c .before .before .args in Still (a .out .now) (a .at) (decimal (a .n)) (a .out .now) (a .at) ((48 + a .n / 10) ∷ (48 + a .n % 10) ∷ []))
+    → (let a = c .before .before .args in Still (a .out .now) (a .at) (decimal (a .n)) (a .out .now) (a .at) (decimalDigit (a .n / 10) ∷ decimalDigit (a .n % 10) ∷ []))
 begun c =
     let s = c .before .before in
     let a = s .args in
-    all-still (a .out .now) (a .at) (decimal (a .n)) ((48 + a .n / 10) ∷ (48 + a .n % 10) ∷ []) (two-digits (a .n) (omega arith) (s .pre .0)) (s .pre .1)
+    all-still (a .out .now) (a .at) (decimal (a .n)) (decimalDigit (a .n / 10) ∷ decimalDigit (a .n % 10) ∷ []) (two-digits (a .n) (omega arith) (s .pre .0)) (s .pre .1)
 
 halfway : (c : tie.After-put-byte2)
     → (let a = c .before .before .before .before .args in
-    Still (a .out .now) (a .at) (decimal (a .n)) (c .put-byte2 .last .0) (c .put-byte2 .result) ((48 + a .n % 10) ∷ []))
+    Still (a .out .now) (a .at) (decimal (a .n)) (c .put-byte2 .last .0) (c .put-byte2 .result) (decimalDigit (a .n % 10) ∷ []))
 halfway c =
     let a = c .before .before .before .before .args in
-    next-written (a .out .now) (a .at) (decimal (a .n)) (a .out .now) (a .at) ((48 + a .n / 10) ∷ []) ((48 + a .n % 10) ∷ []) (c .put-byte2 .last .0)
+    next-written (a .out .now) (a .at) (decimal (a .n)) (a .out .now) (a .at) (decimalDigit (a .n / 10) ∷ []) (decimalDigit (a .n % 10) ∷ []) (c .put-byte2 .last .0)
     (c .put-byte2 .result) (begun (c .before .before)) (c .put-byte2 .ensures)
 
 add-put-byte : tie.Need-add-put-byte
@@ -41,7 +41,7 @@ same-length c = search needs
 returns : tie.Need-returns
 returns c =
     let a = c .before .before .before .before .before .before .args in
-    as-text (a .out .now) (a .at) ((48 + a .n) ∷ []) (decimal (a .n)) (c .before .before .put-byte .last .0) (c .before .before .put-byte .result)
+    as-text (a .out .now) (a .at) (decimalDigit (a .n) ∷ []) (decimal (a .n)) (c .before .before .put-byte .last .0) (c .before .before .put-byte .result)
     (sym (one-digit 19 (a .n) (omega arith)))
     (c .before .before .put-byte .ensures)
 
@@ -64,7 +64,7 @@ returns-2 : tie.Need-returns-2
 returns-2 c =
     let a = c .before .before .before .before .before .before .before .before .before .before .args in
     let h = c .before .before .before .before .before .before .put-byte2 in
-    rest-written (a .out .now) (a .at) (decimal (a .n)) (h .last .0) (h .result) ((48 + a .n % 10) ∷ []) (c .before .before .put-byte3 .last .0)
+    rest-written (a .out .now) (a .at) (decimal (a .n)) (h .last .0) (h .result) (decimalDigit (a .n % 10) ∷ []) (c .before .before .put-byte3 .last .0)
     (c .before .before .put-byte3 .result) (halfway (c .before .before .before .before .before .before))
     (c .before .before .put-byte3 .ensures)
 

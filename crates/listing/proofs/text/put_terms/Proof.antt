@@ -6,7 +6,7 @@ use Prim.Native.Nat.{ℕ, _+_, _-_, _≤_}
 use native.Mathlib.Omega.{arith}
 use lib.ListN.{length, getD, drop}
 use borrow.Author.Needs.{needs}
-use Rattle.listing.specs.Listing.{joined, termText}
+use Rattle.listing.specs.Listing.{termText, termsText}
 use Rattle.listing.proofs.Names.{plus, spread, behind-term, first-term, later-term, terms-behind, terms-over}
 use Rattle.listing.proofs.Writes.{Still, still-as, next-fits, next-written, none-left}
 use Rattle.listing.proofs.text.put_terms.Statement.{statement}
@@ -14,7 +14,7 @@ use Rattle.listing.proofs.text.put_terms.Tie as tie
 
 abbrev Inv-loop : tie.InvT-loop
 Inv-loop out₀ at f end₀ i₀ t6 out end i =
-    (i ≤ length f) × Still out₀ at (joined plus (map termText f)) out end (spread i (map termText (drop i f)))
+    (i ≤ length f) × Still out₀ at (termsText f) out end (spread i (map termText (drop i f)))
 
 abbrev μ-loop : tie.MeasureT-loop
 μ-loop out₀ at f end₀ i₀ t6 out end i = length f - i
@@ -23,22 +23,22 @@ abbrev μ-loop : tie.MeasureT-loop
 begun : (c : tie.Then1 Inv-loop μ-loop)
     → (let a = c .before .before .before .before .before .args in
     let l = c .before .before .loop in
-    Still (a .out .now) (a .at) (joined plus (map termText (a .f .now))) (l .out) (l .end) (plus ++ (termText (getD (a .f .now) (l .i) 0) ++ behind-term (a .f .now) (l .i))))
+    Still (a .out .now) (a .at) (termsText (a .f .now)) (l .out) (l .end) (plus ++ (termText (getD (a .f .now) (l .i) 0) ++ behind-term (a .f .now) (l .i))))
 begun c =
     let a = c .before .before .before .before .before .args in
     let l = c .before .before .loop in
-    still-as (a .out .now) (a .at) (joined plus (map termText (a .f .now))) (l .out) (l .end) (spread (l .i) (map termText (drop (l .i) (a .f .now))))
+    still-as (a .out .now) (a .at) (termsText (a .f .now)) (l .out) (l .end) (spread (l .i) (map termText (drop (l .i) (a .f .now))))
     (plus ++ (termText (getD (a .f .now) (l .i) 0) ++ behind-term (a .f .now) (l .i))) (later-term (a .f .now) (l .i) (omega arith) (omega arith)) (l .inv .1)
 
 -- the term is
 parted : (c : tie.Joined1 Inv-loop μ-loop)
     → (let a = c .before .before .before .before .before .args in
     let l = c .before .before .loop in
-    Still (a .out .now) (a .at) (joined plus (map termText (a .f .now))) (c .if1 .out) (c .if1 .end) (termText (getD (a .f .now) (l .i) 0) ++ behind-term (a .f .now) (l .i)))
+    Still (a .out .now) (a .at) (termsText (a .f .now)) (c .if1 .out) (c .if1 .end) (termText (getD (a .f .now) (l .i) 0) ++ behind-term (a .f .now) (l .i)))
 parted c =
     let a = c .before .before .before .before .before .args in
     let l = c .before .before .loop in
-    let whole : List ℕ = joined plus (map termText (a .f .now)) in
+    let whole : List ℕ = termsText (a .f .now) in
     let rest : List ℕ = termText (getD (a .f .now) (l .i) 0) ++ behind-term (a .f .now) (l .i) in
     ⊎-elim
     (λ w.
@@ -70,7 +70,7 @@ put-term-requires c κs =
     let a = c .before .before .before .before .before .before .before .args in
     let l = c .before .before .before .before .loop in
     let j = c .before .before .if1 in
-    next-fits (a .out .now) (a .at) (joined plus (map termText (a .f .now))) (j .out) (j .end) (termText (getD (a .f .now) (l .i) 0)) (behind-term (a .f .now) (l .i))
+    next-fits (a .out .now) (a .at) (termsText (a .f .now)) (j .out) (j .end) (termText (getD (a .f .now) (l .i) 0)) (behind-term (a .f .now) (l .i))
     (parted (c .before .before))
 
 add-i : tie.Need-add-i Inv-loop μ-loop
@@ -85,7 +85,7 @@ loop-again c =
     let l = c .before .before .before .before .before .before .before .loop in
     let j = c .before .before .before .before .before .if1 in
     let p = c .before .before .put-term in
-    let whole : List ℕ = joined plus (map termText (a .f .now)) in (
+    let whole : List ℕ = termsText (a .f .now) in (
       omega arith,
       still-as (a .out .now) (a .at) whole (p .last .0) (p .result) (behind-term (a .f .now) (l .i)) (spread (l .i + 1) (map termText (drop (l .i + 1) (a .f .now))))
           (terms-behind (a .f .now) (l .i))
@@ -100,7 +100,7 @@ returns : tie.Need-returns Inv-loop μ-loop
 returns c =
     let a = c .before .before .before .before .args in
     let l = c .before .loop in
-    none-left (a .out .now) (a .at) (joined plus (map termText (a .f .now))) (l .out) (l .end) (spread (l .i) (map termText (drop (l .i) (a .f .now))))
+    none-left (a .out .now) (a .at) (termsText (a .f .now)) (l .out) (l .end) (spread (l .i) (map termText (drop (l .i) (a .f .now))))
     (terms-over (a .f .now) (l .i) (omega arith)) (l .inv .1)
 
 pub put-terms-spec : {M : Type 1} → statement M

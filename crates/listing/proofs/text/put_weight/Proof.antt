@@ -1,7 +1,7 @@
 -- `put_weight` meets its contract: a number, or a minus sign and a number.
 use mathlib.Core.Path.{_≡_, sym, ap, _∙_}
 use mathlib.Core.Bool.{true, false}
-use mathlib.Core.List.{[], _∷_, _++_}
+use mathlib.Core.List.{_++_}
 use Prim.Native.Nat.{_+_, _<_, _^_}
 use native.Mathlib.Omega.{arith}
 use lib.Dec.{T}
@@ -11,6 +11,7 @@ use mir.Syntax.{w64}
 use mir.Val.{toZ, ofZ}
 use mir.Facts.{toZ-ofZ}
 use borrow.Author.Needs.{needs}
+use Rattle.listing.specs.Words.{ascii}
 use Rattle.listing.specs.Listing.{decimal, weightText}
 use Rattle.listing.proofs.Decimals.{above, rest, positive, Negative, negative}
 use Rattle.listing.proofs.Writes.{Still, all-still, next-written, rest-fits, rest-written, as-text}
@@ -54,12 +55,12 @@ left-is c =
 
 -- a sign and a number are still to be written, and then the number
 begun : (c : tie.Else1)
-    → (let a = c .before .before .args in Still (a .out .now) (a .at) (weightText (a .weight)) (a .out .now) (a .at) ((45 ∷ []) ++ decimal (natAbs (left (c .before .before)) + 1)))
+    → (let a = c .before .before .args in Still (a .out .now) (a .at) (weightText (a .weight)) (a .out .now) (a .at) (ascii "-" ++ decimal (natAbs (left (c .before .before)) + 1)))
 begun c =
     let s = c .before .before in
     let a = s .args in
-    all-still (a .out .now) (a .at) (weightText (a .weight)) ((45 ∷ []) ++ decimal (natAbs (left s) + 1))
-    (downward c .text ∙ ap (λ (z : ℤ). 45 ∷ decimal (natAbs z + 1)) (sym (left-is c))) (s .pre)
+    all-still (a .out .now) (a .at) (weightText (a .weight)) (ascii "-" ++ decimal (natAbs (left s) + 1))
+    (downward c .text ∙ ap (λ (z : ℤ). ascii "-" ++ decimal (natAbs z + 1)) (sym (left-is c))) (s .pre)
 
 signed : (c : tie.After-put-byte)
     → (let s = c .before .before .before .before in
@@ -67,7 +68,7 @@ signed : (c : tie.After-put-byte)
 signed c =
     let s = c .before .before .before .before in
     let a = s .args in
-    next-written (a .out .now) (a .at) (weightText (a .weight)) (a .out .now) (a .at) (45 ∷ []) (decimal (natAbs (left s) + 1)) (c .put-byte .last .0) (c .put-byte .result)
+    next-written (a .out .now) (a .at) (weightText (a .weight)) (a .out .now) (a .at) (ascii "-") (decimal (natAbs (left s) + 1)) (c .put-byte .last .0) (c .put-byte .result)
     (begun (c .before .before)) (c .put-byte .ensures)
 
 cast-put-decimal : tie.Need-cast-put-decimal

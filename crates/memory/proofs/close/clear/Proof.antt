@@ -6,14 +6,14 @@ use Rattle.memory.proofs.Closings.{clear-whole}
 use Rattle.memory.proofs.close.clear.Statement.{statement}
 use Rattle.memory.proofs.close.clear.Tie as tie
 
-clear-requires : tie.Need-clear-requires
-clear-requires c κs = search needs
+clear-part-requires : tie.Need-clear-part-requires
+clear-part-requires c κs = search needs
 
 same-length : tie.Need-same-length
 same-length c = search needs
 
 returns : tie.Need-returns
-returns c = c .before .before .clear .ensures ∙ clear-whole (now (c .before .before .before .before .before .args .terms))
+returns c = c .before .before .clear-part .ensures ∙ clear-whole (now (c .before .before .before .before .before .args .terms))
 
 pub clear-spec : {M : Type 1} → statement M
-clear-spec = tie.close (tie.spec clear-requires same-length returns)
+clear-spec = tie.close (tie.spec clear-part-requires same-length returns)

@@ -31,8 +31,8 @@ mul-end c = search needs
 add-end : tie.Need-add-end
 add-end c = search needs
 
-clear-requires : tie.Need-clear-requires
-clear-requires c κs =
+clear-part-requires : tie.Need-clear-part-requires
+clear-part-requires c κs =
     let s = c .before .before .before .before in
     let a = s .args in
     (omega arith, omega (arith, row-short (drop (64 * a .i) (now (a .terms))) (a .old) (s .pre .2), s .pre .0))
@@ -44,7 +44,7 @@ returns-2 : tie.Need-returns-2
 returns-2 c =
     let s = c .before .before .before .before .before .before .before in
     let a = s .args in
-    c .before .before .clear .ensures ∙ clear-old (a .i) (now (a .terms)) (a .old) (s .pre .0) (s .pre .2) (a .count) (c .before .before .before .before .if1 .left)
+    c .before .before .clear-part .ensures ∙ clear-old (a .i) (now (a .terms)) (a .old) (s .pre .0) (s .pre .2) (a .count) (c .before .before .before .before .if1 .left)
 
 pub clear-behind-spec : {M : Type 1} → statement M
 clear-behind-spec =
@@ -56,6 +56,6 @@ clear-behind-spec =
     add-start
     mul-end
     add-end
-    clear-requires
+    clear-part-requires
     same-length
     returns-2)

@@ -11,7 +11,7 @@ use Rattle.table.specs.Rows.{Table, linesOf}
 use Rattle.table.specs.RowsLaws.{length-lines}
 use Rattle.memory.specs.Memory.{unused}
 use Rattle.memory.specs.Layout.{rowCleared, ClearedFrom}
-use Rattle.memory.proofs.Closings.{every-row, fits-short, put-length, rows-behind, written-back}
+use Rattle.memory.proofs.Closings.{every-row, table-short, put-length, rows-behind, written-back}
 use Rattle.memory.proofs.close.close.Statement.{statement}
 use Rattle.memory.proofs.close.close.Tie as tie
 
@@ -34,8 +34,8 @@ clear-rows-requires c κs =
     let N = linesOf (table s) in
     let e = c .before .before .before .put-lines .ensures .0 in (
       q .room,
-      put-length N (fits-short q) (a .lines) n l _ e (omega (arith, q .room, s .pre .1)) ∙ s .pre .1,
-      λ i h k. subst (λ (x : List ℕ). T (rowCleared x (getD (a .before) i unused))) (sym (rows-behind N (fits-short q) (a .lines) n l _ e i h)) (clean s i zero-le k),
+      put-length N (table-short q) (a .lines) n l _ e (omega (arith, q .room, s .pre .1)) ∙ s .pre .1,
+      λ i h k. subst (λ (x : List ℕ). T (rowCleared x (getD (a .before) i unused))) (sym (rows-behind N (table-short q) (a .lines) n l _ e i h)) (clean s i zero-le k),
     )
 
 same-length : tie.Need-same-length
@@ -46,7 +46,7 @@ returns c =
     let s = c .before .before .before .before .before .before .before .before .before .before .before .before in
     let p = c .before .before .before .before .before .before .put-lines in
     let q = s .pre .0 in
-    λ n. written-back n (s .args .lines) (linesOf (table s)) _ _ (drop (64 * s .args .lines) (now (s .args .terms))) _ (fits-short q) (length-lines q) (p .ensures .0)
+    λ n. written-back n (s .args .lines) (linesOf (table s)) _ _ (drop (64 * s .args .lines) (now (s .args .terms))) _ (table-short q) (length-lines q) (p .ensures .0)
     (c .before .before .clear-rows .ensures) (p .ensures .1)
 
 pub close-spec : {M : Type 1} → statement M

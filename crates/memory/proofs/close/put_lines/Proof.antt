@@ -10,21 +10,21 @@ use lib.Seq.{take-all, length-take-le}
 use denote.Ref.{now}
 use borrow.Author.Needs.{needs}
 use Rattle.configuration.specs.Configuration.{Line, line}
-use Rattle.configuration.proofs.Areas.{read-back}
+use Rattle.configuration.proofs.Weights.{read-back}
 use Rattle.table.specs.Rows.{Table, rowOf, linesOf, termsIn, Fits}
 use Rattle.table.specs.RowsLaws.{length-lines, line-at, entered-at, held-below, row-fits}
+use Rattle.table.proofs.Searches.{none}
 use Rattle.memory.specs.declared.Entry.{Entry}
-use Rattle.memory.specs.Memory.{termsOf, entriesOf, unused}
+use Rattle.memory.specs.Memory.{termAreaOf, entriesOf, unused}
 use Rattle.memory.specs.Layout.{rowCleared}
-use Rattle.memory.proofs.Openings.{none}
-use Rattle.memory.proofs.Closings.{no-terms, no-lines, fits-short, rows-left, next-terms, next-entries}
+use Rattle.memory.proofs.Closings.{no-terms, no-lines, table-short, rows-left, next-terms, next-entries}
 use Rattle.memory.proofs.close.put_lines.Statement.{statement}
 use Rattle.memory.proofs.close.put_lines.Tie as tie
 
 abbrev Inv-loop : tie.InvT-loop
 Inv-loop lines order rows weights counts terms₀ before entries₀ i₀ terms entries i =
     let N = linesOf (record { lines = lines; order = order; terms = rows; weights = weights; counts = counts }) in
-    (i ≤ lines) × (length terms ≡ 8192) × (terms ≡ termsOf (take i N) ++ drop (64 * i) terms₀) × (entries ≡ entriesOf (take i N) ++ replicate (128 - i) unused)
+    (i ≤ lines) × (length terms ≡ 8192) × (terms ≡ termAreaOf (take i N) ++ drop (64 * i) terms₀) × (entries ≡ entriesOf (take i N) ++ replicate (128 - i) unused)
 
 abbrev μ-loop : tie.MeasureT-loop
 μ-loop lines order rows weights counts terms₀ before entries₀ i₀ terms entries i = lines - i
@@ -81,7 +81,7 @@ count-is c =
 left : (c : In) → (let l = c .before .loop in drop (64 * l .i) (l .terms) ≡ drop (64 * l .i) (now (start c .args .terms)))
 left c =
     let l = c .before .loop in
-    ap (drop (64 * l .i)) (l .inv .2) ∙ rows-left (lines c) (fits-short (fits c)) (l .i) (now (start c .args .terms)) (among c)
+    ap (drop (64 * l .i)) (l .inv .2) ∙ rows-left (lines c) (table-short (fits c)) (l .i) (now (start c .args .terms)) (among c)
 
 row-at-requires : tie.Need-row-at-requires Inv-loop μ-loop
 row-at-requires c κs = let q = fits c in omega (arith, c .loop-test .taken, q .room, q .order-length)
@@ -150,11 +150,11 @@ loop-again c =
       omega (arith, below k),
       search needs,
       p .ensures ∙ ap₂ (λ (m f : List ℕ). take (64 * l .i) m ++ (f ++ (replicate (64 - length f) 0 ++ drop (64 * l .i + 64) m))) (l .inv .2) (row-is r)
-          ∙ next-terms N (fits-short (fits k)) (l .i) (now (start k .args .terms)) (among k) f w none (here k),
+          ∙ next-terms N (table-short (fits k)) (l .i) (now (start k .args .terms)) (among k) f w none (here k),
       ap₂ (λ (t : List Entry) (e : Entry). set t (l .i) e) (l .inv .3)
           (ap₂ (λ (u : ℤ) (n : ℕ). record { weight = u; count = n }) (read-back _ (c .before .before .before .before .before .before .weight .given) ∙ ap (λ (r : ℕ). getD (now (start k .args .weights)) r (pos 0)) (c .before .before .before .before .before .before .before .before .row-at .ensures))
           (ap (λ (r : ℕ). getD (now (start k .args .counts)) r 0) (c .before .before .before .before .before .before .before .before .row-at .ensures) ∙ sym (count-is k)))
-          ∙ next-entries N (fits-short (fits k)) (l .i) (now (start k .args .terms)) (among k) f w none (here k)
+          ∙ next-entries N (table-short (fits k)) (l .i) (now (start k .args .terms)) (among k) f w none (here k)
           (omega (arith, below k, fits k .room)),
     )
 
@@ -169,7 +169,7 @@ returns c =
     let e : l .i ≡ s .args .lines = omega (arith, c .loop-test .left, l .inv .0) in
     let N = linesOf (table s) in
     let a : take (l .i) N ≡ N = take-all (l .i) N (omega (arith, length-lines q)) in (
-      l .inv .2 ∙ ap₂ (λ (M : List Line) (k : ℕ). termsOf M ++ drop (64 * k) (now (s .args .terms))) a e,
+      l .inv .2 ∙ ap₂ (λ (M : List Line) (k : ℕ). termAreaOf M ++ drop (64 * k) (now (s .args .terms))) a e,
       l .inv .3 ∙ ap₂ (λ (M : List Line) (k : ℕ). entriesOf M ++ replicate (128 - k) unused) a e,
     )
 

@@ -1,6 +1,6 @@
 -- `is_unused` meets its contract: each test is one of the two that the definition joins.
 use borrow.Author.Needs.{needs}
-use Rattle.configuration.proofs.Areas.{is-zero, not-zero}
+use Rattle.configuration.proofs.Weights.{is-zero, not-zero}
 use Rattle.memory.proofs.form.is_unused.Statement.{statement}
 use Rattle.memory.proofs.form.is_unused.Tie as tie
 

@@ -7,20 +7,19 @@ use borrow.Author.Needs.{needs}
 use borrow.Author.Tests.{not-true, not-false}
 use Rattle.configuration.specs.Weight.{inRange}
 use Rattle.configuration.specs.Configuration.{line, lineFits}
-use Rattle.configuration.proofs.Areas.{is-zero, not-zero}
-use Rattle.configuration.proofs.Forms.{no-terms, no-weight, the-polynomial}
-use Rattle.memory.proofs.Forms.{and-false, and-true}
+use Rattle.configuration.proofs.Weights.{is-zero, not-zero}
+use Rattle.memory.proofs.Forms.{and-false, and-true, without-terms, without-weight, the-polynomial}
 use Rattle.memory.proofs.form.line_fits.Statement.{statement}
 use Rattle.memory.proofs.form.line_fits.Tie as tie
 
 returns : tie.Need-returns
-returns c = let a = c .before .before .before .args in ap (λ (b : Bool). b && inRange (a .weight)) (no-terms (a .variables) (now (a .terms)) (a .weight) (c .if1 .taken))
+returns c = let a = c .before .before .before .args in ap (λ (b : Bool). b && inRange (a .weight)) (without-terms (a .variables) (now (a .terms)) (a .weight) (c .if1 .taken))
 
 returns-2 : tie.Need-returns-2
 returns-2 c =
     let s = c .before .before .before .before in
     let a = s .args in
-    ap (λ (b : Bool). b && inRange (a .weight)) (no-weight (a .variables) (now (a .terms)) (a .weight) (is-zero (a .weight) (s .fits .weight .sfits) (c .if2 .taken)))
+    ap (λ (b : Bool). b && inRange (a .weight)) (without-weight (a .variables) (now (a .terms)) (a .weight) (is-zero (a .weight) (s .fits .weight .sfits) (c .if2 .taken)))
 
 within-limit-requires : tie.Need-within-limit-requires
 within-limit-requires c κs = search needs

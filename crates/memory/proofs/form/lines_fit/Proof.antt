@@ -12,9 +12,9 @@ use borrow.Author.Tests.{not-true, not-false}
 use Rattle.polynomial.specs.Polynomial.{orderOf}
 use Rattle.configuration.specs.Weight.{inRange}
 use Rattle.configuration.specs.Configuration.{line, byOrder, lineFits, linesFit, weightsFit}
-use Rattle.configuration.proofs.Areas.{read-back}
+use Rattle.configuration.proofs.Weights.{read-back}
 use Rattle.memory.specs.Memory.{readLines, unused}
-use Rattle.memory.proofs.Forms.{cleared-short, lineIn, line-misfit, out-of-order, ordered-pair, last-line, lines-end}
+use Rattle.memory.proofs.Forms.{cleared-short, lineRead, line-misfit, out-of-order, ordered-pair, last-line, lines-end}
 use Rattle.memory.proofs.form.lines_fit.Statement.{statement}
 use Rattle.memory.proofs.form.lines_fit.Tie as tie
 
@@ -54,7 +54,7 @@ line-fits-requires c κs = search needs
 -- what is answered is the test of line `i`
 tested : (c : tie.After-line-fits Inv-loop μ-loop)
     → (let a = c .before .before .before .before .before .before .before .before .args in let i = c .before .before .before .before .before .before .loop .i in
-    c .line-fits .result ≡ (lineFits (a .variables) (lineIn (now (a .terms)) (a .t4) i) && inRange (getD (a .t4) i unused .weight)))
+    c .line-fits .result ≡ (lineFits (a .variables) (lineRead (now (a .terms)) (a .t4) i) && inRange (getD (a .t4) i unused .weight)))
 tested c =
     let a = c .before .before .before .before .before .before .before .before .args in
     let w = getD (a .t4) (c .before .before .before .before .before .before .loop .i) unused .weight in

@@ -1,12 +1,12 @@
 -- `well_formed` meets its contract: a test that fails is a part of 'well formed', and the last is what is left of it.
 use mathlib.Core.Path.{sym, _∙_}
-use mathlib.Core.Bool.{true, true≢false}
+use mathlib.Core.Bool.{true≢false}
 use native.Mathlib.Omega.{arith}
 use lib.Dec.{T}
 use denote.Ref.{now}
 use borrow.Author.Needs.{needs}
 use borrow.Author.Tests.{not-true, not-false}
-use Rattle.run.specs.Boolean.{is-true, of-true}
+use Rattle.run.specs.BooleanLaws.{is-true, of-true}
 use Rattle.memory.specs.Layout.{cleared}
 use Rattle.memory.specs.Memory.{Memory, memoryOf}
 use Rattle.memory.proofs.Forms.{not-well, the-lines}

@@ -12,14 +12,15 @@ use denote.Ref.{now}
 use borrow.Author.Needs.{needs}
 use Rattle.configuration.specs.Configuration.{Line, line}
 use Rattle.configuration.specs.ConfigurationLaws.{fit-ordered}
-use Rattle.configuration.proofs.Areas.{read-back}
+use Rattle.configuration.proofs.Weights.{read-back}
 use Rattle.table.specs.Rows.{Table, linesOf, Fits}
 use Rattle.table.specs.RowsLaws.{of-capacity, to-capacity}
+use Rattle.table.proofs.Searches.{none}
 use Rattle.memory.specs.declared.Entry.{Entry}
 use Rattle.memory.specs.Memory.{Memory, memoryOf, readLines, unused, standingOf}
 use Rattle.memory.specs.MemoryLaws.{length-read, Formed, well-formed}
 use Rattle.memory.proofs.Forms.{cleared-short, line-read}
-use Rattle.memory.proofs.Openings.{none, fresh, next-ordered, next-lines, next-held}
+use Rattle.memory.proofs.Openings.{fresh-table, next-ordered, next-lines, next-held}
 use Rattle.memory.proofs.open.open.Statement.{statement}
 use Rattle.memory.proofs.open.open.Tie as tie
 
@@ -38,7 +39,7 @@ formed : (s : tie.Start Inv-loop μ-loop) → Formed (lent s)
 formed s = well-formed (lent s) (s .pre .0)
 
 fits-before : (s : tie.Start Inv-loop μ-loop) → (let a = s .args in Fits 128 (record { lines = 0; order = now (a .order); terms = now (a .rows); weights = now (a .weights); counts = now (a .counts) }))
-fits-before s = let a = s .args in fresh (now (a .order)) (now (a .rows)) (now (a .weights)) (now (a .counts)) (s .pre .1) (s .pre .2) (s .pre .3) (s .pre .4)
+fits-before s = let a = s .args in fresh-table (now (a .order)) (now (a .rows)) (now (a .weights)) (now (a .counts)) (s .pre .1) (s .pre .2) (s .pre .3) (s .pre .4)
 
 -- ---- line `held`
 abbrev In : Type 0
@@ -84,7 +85,7 @@ loop-holds : tie.Need-loop-holds Inv-loop μ-loop
 loop-holds c =
     let s = c .before .before .before .before .before in
     let a = s .args in
-    (omega arith, fresh (now (a .order)) (now (a .rows)) (now (a .weights)) (now (a .counts)) (s .pre .1) (s .pre .2) (s .pre .3) (s .pre .4), refl)
+    (omega arith, fresh-table (now (a .order)) (now (a .rows)) (now (a .weights)) (now (a .counts)) (s .pre .1) (s .pre .2) (s .pre .3) (s .pre .4), refl)
 
 mul-entry : tie.Need-mul-entry Inv-loop μ-loop
 mul-entry c = search needs

@@ -9,7 +9,7 @@ use lib.Pow.{pow-lt, shl-exact}
 use borrow.Author.Needs.{needs}
 use Rattle.term.specs.TermLaws.{degree-le}
 use Rattle.polynomial.specs.ClauseLaws.{clause-both-ways, clause-length}
-use Rattle.polynomial.specs.Polynomial.{clauseOf, outcomeOf}
+use Rattle.polynomial.specs.Polynomial.{clauseOf, measuredOf}
 use Rattle.polynomial.proofs.Keys.{outcome-long}
 use Rattle.polynomial.proofs.Polynomial.clause.Statement.{statement}
 use Rattle.polynomial.proofs.Polynomial.clause.Tie as tie
@@ -17,7 +17,7 @@ use Rattle.polynomial.proofs.Polynomial.clause.Tie as tie
 returns : tie.Need-returns
 returns c =
     let s = c .before in
-    sym (ap outcomeOf (clause-both-ways (s .args .plain) (s .args .negated) (s .fits .plain .fits) (s .fits .negated .fits) (c .if1 .taken)))
+    sym (ap measuredOf (clause-both-ways (s .args .plain) (s .args .negated) (s .fits .plain .fits) (s .fits .negated .fits) (c .if1 .taken)))
 
 degree-requires : tie.Need-degree-requires
 degree-requires c κs = search needs

@@ -7,7 +7,7 @@ use lib.Pow.{pow-mono}
 use lib.Seq.{length-take-le}
 use borrow.Author.Needs.{needs}
 use Rattle.term.specs.Term.{degreeOf}
-use Rattle.polynomial.specs.ClauseLaws.{length-subsets-le}
+use Rattle.mask.specs.SubsetLaws.{length-subsets-le}
 use Rattle.polynomial.specs.Polynomial.{clauseOf}
 use Rattle.polynomial.proofs.Keys.{clause-masks, outcome-short}
 use Rattle.polynomial.proofs.clause.short_clause.Statement.{statement}

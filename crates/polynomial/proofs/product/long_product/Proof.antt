@@ -4,7 +4,7 @@ use native.Mathlib.Omega.{arith}
 use lib.ListN.{length}
 use borrow.Author.Needs.{needs}
 use Rattle.term.specs.Term.{degreeOf}
-use Rattle.polynomial.specs.FewLaws.{most-few}
+use Rattle.mask.specs.FewLaws.{most-few}
 use Rattle.polynomial.proofs.Keys.{most-products}
 use Rattle.polynomial.proofs.product.long_product.Statement.{statement}
 use Rattle.polynomial.proofs.product.long_product.Tie as tie

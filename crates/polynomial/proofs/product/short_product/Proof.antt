@@ -8,9 +8,11 @@ use lib.ListN.{length, getD, take}
 use lib.Seq.{take-all}
 use borrow.Author.Needs.{needs}
 use Rattle.run.specs.Run.{normalBy}
-use Rattle.polynomial.specs.Polynomial.{unions, sumOf, productOf, Ordered}
+use Rattle.mask.specs.Mask.{unions}
+use Rattle.mask.proofs.KeySteps.{room, next-row}
+use Rattle.polynomial.specs.Polynomial.{sumOf, productOf, Ordered}
 use Rattle.polynomial.specs.PolynomialLaws.{product-ordered}
-use Rattle.polynomial.proofs.Keys.{room, next-row, product-more, front-size}
+use Rattle.polynomial.proofs.Keys.{product-more, front-size}
 use Rattle.polynomial.proofs.product.short_product.Statement.{statement}
 use Rattle.polynomial.proofs.product.short_product.Tie as tie
 

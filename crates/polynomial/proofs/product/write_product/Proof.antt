@@ -6,10 +6,12 @@ use native.Mathlib.Omega.{arith}
 use lib.ListN.{length}
 use lib.Seq.{length-take-le}
 use borrow.Author.Needs.{needs}
-use Rattle.polynomial.specs.Polynomial.{unions, placed}
+use Rattle.mask.specs.Mask.{unions}
+use Rattle.mask.specs.MaskLaws.{length-unions}
+use Rattle.polynomial.specs.Polynomial.{placed}
 use Rattle.polynomial.specs.PolynomialLaws.{product-turned}
 use Rattle.polynomial.specs.ToggleLaws.{normal-short}
-use Rattle.polynomial.proofs.Keys.{most-products, length-unions, below-each, run-written}
+use Rattle.polynomial.proofs.Keys.{most-products, below-each, run-written}
 use Rattle.polynomial.proofs.product.write_product.Statement.{statement}
 use Rattle.polynomial.proofs.product.write_product.Tie as tie
 

@@ -1,5 +1,5 @@
 -- `write_sum` meets its contract: few terms are added one by one; else the keys of both runs are put in order, and then merged.
-use mathlib.Core.Path.{_≡_, sym, subst}
+use mathlib.Core.Path.{_≡_, sym}
 use mathlib.Core.List.{[], map}
 use Prim.Native.Nat.{_+_, _≤_}
 use native.Mathlib.Omega.{arith}
@@ -8,9 +8,8 @@ use lib.ListN.{length, take}
 use lib.Seq.{length-take-le}
 use borrow.Author.Needs.{needs}
 use Rattle.run.proofs.RunSteps.{in-order}
-use Rattle.polynomial.specs.Polynomial.{sumOf, Ordered}
-use Rattle.polynomial.specs.PolynomialLaws.{sum-ordered}
-use Rattle.polynomial.proofs.Keys.{below-each, sum-masks, sum-by-terms, front-size, run-written, written-terms}
+use Rattle.polynomial.specs.Polynomial.{sumOf}
+use Rattle.polynomial.proofs.Keys.{below-each, sum-masks, sum-in-order, sum-by-terms, front-size, run-written, written-terms}
 use Rattle.polynomial.proofs.sum.write_sum.Statement.{statement}
 use Rattle.polynomial.proofs.sum.write_sum.Tie as tie
 
@@ -30,7 +29,7 @@ toggle-all-requires-2 : tie.Need-toggle-all-requires-2
 toggle-all-requires-2 c κs =
     let t = c .before .before .toggle-all in
     let f = c .before .before .before .before .before .before .before .before .args .f .now in
-    (omega (arith, t .ensures .0, t .kept .0), subst Ordered (sym (t .ensures .1)) (sum-ordered [] (map (bitOr 0) f)))
+    (omega (arith, t .ensures .0, t .kept .0), sum-in-order [] (map (bitOr 0) f) _ (t .ensures .1))
 
 array-share-prefix-terms : tie.Need-array-share-prefix-terms
 array-share-prefix-terms c = search needs

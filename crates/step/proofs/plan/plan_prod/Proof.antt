@@ -7,7 +7,7 @@ use mathlib.Core.List.{List}
 use Prim.Native.Nat.{ℕ, _≤_}
 use native.Mathlib.Omega.{arith}
 use lib.Dec.{T, leb}
-use lib.IntN.{ℤ, pos, _-ℤ_, negℤ}
+use lib.IntN.{pos, _-ℤ_, negℤ}
 use lib.ListN.{length, take}
 use lib.Seq.{length-take-le}
 use denote.Ref.{now}
@@ -18,14 +18,14 @@ use borrow.Author.Needs.{needs}
 use Rattle.polynomial.specs.Polynomial.{ONE, sumOf, productOf}
 use Rattle.polynomial.specs.PolynomialLaws.{exact}
 use Rattle.configuration.specs.Configuration.{Line, isPolynomial, negated}
-use Rattle.configuration.specs.FormLaws.{polynomial-below}
-use Rattle.configuration.specs.Replacement.{Small}
+use Rattle.configuration.specs.LineLaws.{polynomial-below}
+use Rattle.replacement.specs.Passes.{Small}
 use Rattle.calculus.specs.Calculus.{conclusions, changes, allShort}
 use Rattle.calculus.specs.declared.Rule.the-variants.{Prod}
-use Rattle.calculus.proofs.Plans.{negated-fits, negated-is, small-changes, room, long, short, plus-one}
 use Rattle.table.specs.Rows.{Table}
 use Rattle.step.specs.Stepping.{HasPlan}
-use Rattle.step.proofs.Plans.{operand-is, Folded, folded-none, fold-asked, fold-given, made, made-none}
+use Rattle.step.proofs.Amounts.{negated-fits, negated-is, small-changes}
+use Rattle.step.proofs.Plans.{operand-is, room, long, short, plus-one, Folded, folded-none, fold-asked, fold-given, made, made-none}
 use Rattle.step.proofs.plan.plan_prod.Statement.{statement}
 use Rattle.step.proofs.plan.plan_prod.Tie as tie
 

@@ -15,12 +15,12 @@ use borrow.Author.Needs.{needs}
 use Rattle.polynomial.specs.Polynomial.{sumOf, productOf}
 use Rattle.polynomial.specs.PolynomialLaws.{exact}
 use Rattle.configuration.specs.Configuration.{Line, negated}
-use Rattle.configuration.specs.Replacement.{Small}
+use Rattle.replacement.specs.Passes.{Small}
 use Rattle.calculus.specs.Calculus.{conclusions, changes, allShort}
 use Rattle.calculus.specs.declared.Rule.the-variants.{Sum}
-use Rattle.calculus.proofs.Plans.{negated-fits, negated-is, doubled-fits, doubled-is, small-changes, room, long, short}
 use Rattle.table.specs.Rows.{Table}
-use Rattle.step.proofs.Plans.{Folded, folded-none, fold-asked, fold-given, made}
+use Rattle.step.proofs.Amounts.{negated-fits, negated-is, doubled-fits, doubled-is, small-changes}
+use Rattle.step.proofs.Plans.{room, long, short, Folded, folded-none, fold-asked, fold-given, made}
 use Rattle.step.proofs.plan.plan_sum.Statement.{statement}
 use Rattle.step.proofs.plan.plan_sum.Tie as tie
 

@@ -8,7 +8,7 @@ use lib.Seq.{take-all}
 use denote.Ref.{now}
 use mir.Facts.{toZ-ofZ}
 use borrow.Author.Needs.{needs}
-use Rattle.configuration.specs.Configuration.{Line, line, some, Ordered}
+use Rattle.configuration.specs.Configuration.{Line, line, some, InOrder}
 use Rattle.table.specs.Rows.{Table, linesOf}
 use Rattle.table.specs.RowsLaws.{length-lines}
 use Rattle.table.proofs.Searches.{some-length, first-key}
@@ -50,7 +50,7 @@ insert-line-requires c κs =
       not-empty s,
       s .pre .2,
       k .key .ensures .0 ∙ first-key x (not-empty s),
-      rw (toZ-ofZ (s .fits .weight)) (subst Ordered (sym (at-end s)) (s .pre .3)),
+      rw (toZ-ofZ (s .fits .weight)) (subst InOrder (sym (at-end s)) (s .pre .3)),
     )
 
 same-length : tie.Need-same-length

@@ -12,12 +12,12 @@ use mir.Val.{toZ, ofZ, SFits}
 use mir.Facts.{toZ-ofZ}
 use borrow.Author.Needs.{needs}
 use Rattle.configuration.specs.Weight.{isZero}
-use Rattle.configuration.specs.Configuration.{line, weight, add, Ordered}
+use Rattle.configuration.specs.Configuration.{line, weight, add, InOrder}
 use Rattle.configuration.specs.ConfigurationLaws.{add-ordered}
-use Rattle.configuration.proofs.Areas.{is-zero, not-zero}
+use Rattle.configuration.proofs.Weights.{is-zero, not-zero}
 use Rattle.table.specs.Rows.{Table, linesOf}
 use Rattle.table.specs.RowsLaws.{held-below}
-use Rattle.table.proofs.Places.{Placed, placed-by, in-reach, in-table, terms-here, add-nought, add-line, add-room, add-gone, add-changed}
+use Rattle.table.proofs.Places.{Located, located-by, in-reach, in-table, terms-here, add-nought, add-line, add-room, add-gone, add-changed}
 use Rattle.table.proofs.Written.{weighed}
 use Rattle.table.proofs.lines.fold_at.Statement.{statement}
 use Rattle.table.proofs.lines.fold_at.Tie as tie
@@ -25,10 +25,10 @@ use Rattle.table.proofs.lines.fold_at.Tie as tie
 abbrev table : tie.Start → Table
 table s = let a = s .args in record { lines = a .lines; order = now (a .order); terms = now (a .terms); weights = now (a .weights); counts = now (a .counts) }
 
-placed : (s : tie.Start) → Placed (table s) (now (s .args .f)) (s .args .at) (not (isZero (s .args .old)))
-placed s = placed-by (s .pre .0) (s .pre .4) (s .pre .5)
+placed : (s : tie.Start) → Located (table s) (now (s .args .f)) (s .args .at) (not (isZero (s .args .old)))
+placed s = located-by (s .pre .0) (s .pre .4) (s .pre .5)
 
-added : (s : tie.Start) → Ordered (add (now (s .args .f)) (s .args .amount) (linesOf (table s)))
+added : (s : tie.Start) → InOrder (add (now (s .args .f)) (s .args .amount) (linesOf (table s)))
 added s = add-ordered (now (s .args .f)) (s .args .amount) (linesOf (table s)) (s .pre .0 .ordered)
 
 -- the sum of the weight so far and the amount
@@ -121,7 +121,7 @@ returns-2 c =
     let e : x ≡ summed s = rw (sum-is s) (toZ-ofZ (sum-fits s)) in
     let g : add f (a .amount) L ≡ take (a .at) L ++ line f x ∷ drop (suc (a .at)) L =
     add-changed q (placed s) (held k) (a .amount) (s .pre .1) (sum-nonzero z) ∙ ap (λ (w : ℤ). take (a .at) L ++ line f w ∷ drop (suc (a .at)) L) (sym e) in
-    let y = weighed q (a .at) (c .row-at .result) f x (in-lines k) (c .row-at .ensures) (terms-here q (placed s) (held k)) (subst Ordered g (added s)) in
+    let y = weighed q (a .at) (c .row-at .result) f x (in-lines k) (c .row-at .ensures) (terms-here q (placed s) (held k)) (subst InOrder g (added s)) in
     (y .0 ∙ sym g, y .1)
 
 returns-3 : tie.Need-returns-3
@@ -144,7 +144,7 @@ insert-line-requires c κs =
       s .pre .1,
       s .pre .2,
       s .pre .3,
-      rw (toZ-ofZ (s .fits .amount)) (subst Ordered (add-line (s .pre .0) (placed s) (not-held k) w (s .pre .1) z) (added s)),
+      rw (toZ-ofZ (s .fits .amount)) (subst InOrder (add-line (s .pre .0) (placed s) (not-held k) w (s .pre .1) z) (added s)),
     )
 
 same-length-7 : tie.Need-same-length-7

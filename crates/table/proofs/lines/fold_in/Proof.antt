@@ -5,7 +5,7 @@ use denote.Ref.{now}
 use mir.Facts.{toZ-ofZ}
 use borrow.Author.Needs.{needs}
 use Rattle.configuration.specs.Configuration.{some}
-use Rattle.configuration.proofs.Areas.{read-back}
+use Rattle.configuration.proofs.Weights.{read-back}
 use Rattle.table.specs.Rows.{firstKey}
 use Rattle.table.proofs.Searches.{some-of, some-length, first-key}
 use Rattle.table.proofs.Places.{add-none}

@@ -6,10 +6,10 @@ use lib.IntN.{pos}
 use lib.ListN.{getD}
 use denote.Ref.{now}
 use borrow.Author.Needs.{needs}
-use Rattle.configuration.proofs.Areas.{read-back}
+use Rattle.configuration.proofs.Weights.{read-back}
 use Rattle.table.specs.Rows.{Table}
 use Rattle.table.specs.RowsLaws.{held-below}
-use Rattle.table.proofs.Places.{Placed, in-table, weight-here, weight-nought}
+use Rattle.table.proofs.Places.{Located, in-table, weight-here, weight-nought}
 use Rattle.table.proofs.lines.look_up.Statement.{statement}
 use Rattle.table.proofs.lines.look_up.Tie as tie
 
@@ -19,7 +19,7 @@ begun c = c .before .before .before .before .before
 abbrev table : tie.Start → Table
 table s = let a = s .args in record { lines = a .lines; order = now (a .order); terms = now (a .terms); weights = now (a .weights); counts = now (a .counts) }
 
-placed : (c : tie.After-find) → Placed (table (begun c)) (now (begun c .args .f)) (c .find .result .at) (c .find .result .held)
+placed : (c : tie.After-find) → Located (table (begun c)) (now (begun c .args .f)) (c .find .result .at) (c .find .result .held)
 placed c = record { place = c .find .ensures .0; is-held = c .find .ensures .1 }
 
 -- where it is held

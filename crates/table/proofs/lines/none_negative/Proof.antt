@@ -12,9 +12,11 @@ use mir.Syntax.{w64}
 use mir.Val.{ofZ}
 use borrow.Author.Needs.{needs}
 use Rattle.configuration.specs.Weight.{isNegative, noneNegative}
-use Rattle.configuration.proofs.Areas.{one-joined, all-joined, joined-below, sign-bit, sign-is}
-use Rattle.table.specs.Rows.{rowOf, weightsAt}
-use Rattle.table.specs.RowsLaws.{map-at, each-at, once-each, weights-sign}
+use Rattle.configuration.proofs.Tests.{one-joined, all-joined}
+use Rattle.configuration.proofs.Weights.{joined-below, sign-bit, sign-is}
+use Rattle.table.proofs.Weights.{weightsAt, weights-sign}
+use Rattle.table.specs.Rows.{rowOf}
+use Rattle.table.specs.RowsLaws.{map-at, each-at, once-each}
 use Rattle.table.proofs.lines.none_negative.Statement.{statement}
 use Rattle.table.proofs.lines.none_negative.Tie as tie
 

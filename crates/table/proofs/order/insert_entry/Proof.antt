@@ -4,7 +4,7 @@ use Prim.Native.Nat.{_-_, _≤_}
 use native.Mathlib.Omega.{arith}
 use lib.ListN.{length, length-set}
 use borrow.Author.Needs.{needs}
-use Rattle.configuration.proofs.Areas.{raised, up-none, up-more, up-all}
+use Rattle.table.proofs.Moves.{raised, up-none, up-more, up-all}
 use Rattle.table.proofs.order.insert_entry.Statement.{statement}
 use Rattle.table.proofs.order.insert_entry.Tie as tie
 

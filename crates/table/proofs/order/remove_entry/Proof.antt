@@ -4,7 +4,7 @@ use Prim.Native.Nat.{_-_, _≤_, _<_}
 use native.Mathlib.Omega.{arith}
 use lib.ListN.{length, length-set}
 use borrow.Author.Needs.{needs}
-use Rattle.configuration.proofs.Areas.{lowered, down-none, down-more, down-all}
+use Rattle.table.proofs.Moves.{lowered, down-none, down-more, down-all}
 use Rattle.table.proofs.order.remove_entry.Statement.{statement}
 use Rattle.table.proofs.order.remove_entry.Tie as tie
 

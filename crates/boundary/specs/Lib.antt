@@ -1,2 +1,0 @@
-pub mod Boundary
-pub mod BoundaryLaws

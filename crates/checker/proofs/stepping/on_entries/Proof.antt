@@ -1,0 +1,141 @@
+-- `on_entries` meets its contract: what is lent is tested, then the operands, and then the step is taken.
+use mathlib.Core.Path.{_≡_, sym, ap, _∙_}
+use mathlib.Core.List.{List, []}
+use lib.Dec.{T}
+use mir.Facts.{toZ-ofZ}
+use denote.Ref.{now}
+use borrow.Author.Needs.{needs}
+use Rattle.refusal.specs.Outcome.{Outcome, mapped, objected}
+use Rattle.refusal.specs.TestsLaws.{nothing-found}
+use Rattle.refusal.specs.declared.Objection.{Objection}
+use Rattle.configuration.specs.Configuration.{Line, isPolynomial}
+use Rattle.configuration.specs.Made.{Made}
+use Rattle.memory.specs.Memory.{Memory, memoryOf, standingOf}
+use Rattle.calculus.specs.Calculus.{operandTests, step, directStep}
+use Rattle.calculus.specs.CalculusLaws.{operands-passed}
+use Rattle.step.specs.SteppingLaws.{polynomial-operand}
+use Rattle.checker.specs.Checker.{Left, leftOf, leftBy, stepped, stepIn, toldOfStep}
+use Rattle.checker.specs.declared.Stepped.{Stepped}
+use Rattle.checker.proofs.Outcomes.{admitted-as, well}
+use Rattle.checker.proofs.stepping.on_entries.Statement.{statement}
+use Rattle.checker.proofs.stepping.on_entries.Tie as tie
+
+abbrev lent : tie.Start → Memory
+lent s = memoryOf (s .args .head) (now (s .args .terms)) (s .args .entries)
+
+abbrev step-on : tie.Start → Outcome (List Line)
+step-on s = step (s .args .rule) (s .args .mode) (now (s .args .f)) (now (s .args .g)) (s .args .amount) (standingOf (lent s))
+
+abbrev made : tie.Start → Outcome (List Line) → Outcome (Made (Unit {0}))
+made s o = mapped (stepped (s .args .head .variables)) o
+
+-- behind the tests of the operands
+abbrev direct : tie.Start → Outcome (List Line)
+direct s = directStep (s .args .rule) (s .args .mode) (now (s .args .f)) (now (s .args .g)) (s .args .amount) (s .args .head .variables) (standingOf (lent s))
+
+abbrev answer : tie.Start → Left (Unit {0})
+answer s = stepIn (s .args .rule) (s .args .mode) (now (s .args .f)) (now (s .args .g)) (s .args .amount) (lent s)
+
+-- what is left where nothing is written
+abbrev refusal : tie.Start → Stepped → Left (Unit {0})
+refusal s k = leftOf (memoryOf (k .head) (now (s .args .terms)) (s .args .entries)) (toldOfStep (k .answer))
+
+-- what is found against the memory, and then against the operands
+found : (c : tie.After-object) → (let s = c .before .before .before .before .before in leftBy (lent s) (objected (c .object .result) (made s (direct s))) ≡ answer s)
+unfolding stepIn
+found c = let s = c .before .before .before .before .before in ap (λ (o : Outcome (Made (Unit {0}))). leftBy (lent s) o) (admitted-as (lent s) (c .object .result) (c .object .ensures) (made s (direct s)))
+
+found-next : (c : tie.After-misfit) → (let s = c .before .before .before .before .before .before .before .before in leftBy (lent s) (made s (objected (c .misfit .result) (step-on s))) ≡ answer s)
+unfolding directStep
+found-next c =
+    let s = c .before .before .before .before .before .before .before .before in
+    ap (λ (o : Outcome (List Line)). leftBy (lent s) (made s o)) (c .misfit .ensures (step-on s))
+    ∙ ap (λ (o : Objection). leftBy (lent s) (objected o (made s (direct s)))) (sym (c .before .enum-told .given .1))
+    ∙ found (c .before .before .before)
+
+-- where nothing is found
+operands : (c : tie.After-enum-told2) → (let a = c .before .before .before .before .before .before .before .before .before .before .args in T (isPolynomial (a .head .variables) (now (a .f))) × T (isPolynomial (a .head .variables) (now (a .g))))
+operands c =
+    let a = c .before .before .before .before .before .before .before .before .before .before .args in
+    operands-passed (a .head .variables) (now (a .f)) (now (a .g))
+    (nothing-found {A = List Line} [] (operandTests (a .head .variables) (now (a .f)) (now (a .g))) (c .before .before .misfit .result) (c .before .before .misfit .ensures) (c .enum-told2 .given .1))
+
+object-requires : tie.Need-object-requires
+object-requires c κs = search needs
+
+enum-known-reason : tie.Need-enum-known-reason
+enum-known-reason c = search needs
+
+refused-requires : tie.Need-refused-requires
+refused-requires c κs = search needs
+
+same-length : tie.Need-same-length
+same-length c = search needs
+
+returns : tie.Need-returns
+returns c =
+    let s = c .before .before .before .before .before .before .before .before .before in
+    ap (refusal s) (c .refused .ensures) ∙ ap (λ (o : Objection). leftBy (lent s) (objected o (made s (direct s)))) (sym (c .before .before .reason .given .1)) ∙ found (c .before .before .before .before)
+
+enum-told : tie.Need-enum-told
+enum-told c = search needs
+
+misfit-requires : tie.Need-misfit-requires
+misfit-requires c κs = search needs
+
+enum-known-reason-2 : tie.Need-enum-known-reason-2
+enum-known-reason-2 c = search needs
+
+refused-requires-2 : tie.Need-refused-requires-2
+refused-requires-2 c κs = search needs
+
+same-length-2 : tie.Need-same-length-2
+same-length-2 c = search needs
+
+returns-2 : tie.Need-returns-2
+returns-2 c =
+    let s = c .before .before .before .before .before .before .before .before .before .before .before .before in
+    ap (refusal s) (c .refused2 .ensures) ∙ ap (λ (o : Objection). leftBy (lent s) (made s (objected o (step-on s)))) (sym (c .before .before .reason2 .given .1))
+    ∙ found-next (c .before .before .before .before)
+
+enum-told-2 : tie.Need-enum-told-2
+enum-told-2 c = search needs
+
+taken-requires : tie.Need-taken-requires
+taken-requires c κs =
+    let s = c .before .before .before .before .before .before .before .before .before .before .before in
+    let n = s .args .head .variables in
+    let o = c .before .before .before .before .before .before .object in
+    let p = operands (c .before) in
+    (well (lent s) (o .result) (o .ensures) (c .before .before .before .before .enum-told .given .1), polynomial-operand n (now (s .args .f)) (p .0), polynomial-operand n (now (s .args .g)) (p .1))
+
+same-length-3 : tie.Need-same-length-3
+same-length-3 c = search needs
+
+returns-3 : tie.Need-returns-3
+returns-3 c =
+    let s = c .before .before .before .before .before .before .before .before .before .before .before .before .before .before in
+    let k = c .before .before .taken in
+    let e : leftOf (memoryOf (k .result .stepped .head) (k .last .1 .0) (k .result .entries)) (toldOfStep (k .result .stepped .answer)) ≡ leftBy (lent s) (made s (step-on s)) =
+    rw (toZ-ofZ (s .fits .amount)) at (k .ensures) in
+    e ∙ ap (λ (o : Objection). leftBy (lent s) (made s (objected o (step-on s)))) (sym (c .before .before .before .before .enum-told2 .given .1)) ∙ found-next (c .before .before .before .before .before .before)
+
+pub on-entries-spec : {M : Type 1} → statement M
+on-entries-spec =
+    tie.close
+    (tie.spec
+    object-requires
+    enum-known-reason
+    refused-requires
+    same-length
+    returns
+    enum-told
+    misfit-requires
+    enum-known-reason-2
+    refused-requires-2
+    same-length-2
+    returns-2
+    enum-told-2
+    taken-requires
+    same-length-3
+    returns-3)

@@ -1,0 +1,90 @@
+// Checking a derivation with the line table by value. These functions are for this crate.
+use crate::Checked;
+use crate::admission::object;
+use derivation::CheckAnswer;
+use memory::Entry;
+use memory::Head;
+use memory::close::close;
+use memory::open::open;
+use refusal::Objection;
+use refusal::Reason;
+use table::order::fresh_order;
+ghost use mathlib.Core.Path.{_≡_};
+ghost use lib.Dec.{T};
+ghost use Rattle.refusal.specs.Outcome.{accepted};
+ghost use Rattle.derivation.specs.Derivation.{toldOfCheck, checkDerivation};
+ghost use Rattle.memory.specs.Memory.{memoryAt, memoryBefore, memoryAfter, standingOf, wellFormed};
+ghost use Rattle.checker.specs.Checker.{leftOf, leftBy, checkIn};
+
+// What a check leaves: the records of the lines, and the head with the answer.
+pub struct Done {
+    pub entries: [Entry; 128],
+    pub checked: Checked,
+}
+
+// A refusal of what is lent: it names record 0 and leaves the head as it was.
+fn refused(head: Head, reason: Reason) -> Checked
+    ensures { λ r. ⌜ r ≡ record { head = head; answer = CheckAnswer.Refused 0 reason } ⌝ }
+{
+    Checked {
+        head,
+        answer: CheckAnswer::Refused(0, reason),
+    }
+}
+
+// The refusal of a line table of another length.
+pub fn unfit(head: Head) -> Checked
+    ensures { λ r. ⌜ r ≡ record { head = head; answer = CheckAnswer.Refused 0 Reason.WrongLength } ⌝ }
+{
+    refused(head, Reason::WrongLength)
+}
+
+// The check on the lines of a well-formed memory. It is for `on_entries`, which has tested it.
+fn checked(bytes: &[u8], head: Head, terms: &mut [u32], entries: [Entry; 128]) -> Done
+    requires { ⌜ T (wellFormed (memoryAt head terms entries)) ⌝ }
+    ensures { λ r. let m = memoryBefore head terms entries in
+        ⌜ leftOf (memoryAfter (r .checked .head) terms (r .entries)) (toldOfCheck (r .checked .answer))
+        ≡ leftBy m (accepted (checkDerivation (now (bytes .entry)) (m .variables) (standingOf m))) ⌝ }
+{
+    let mut order = fresh_order();
+    let mut rows = [0u32; 8192];
+    let mut weights = [0i64; 128];
+    let mut counts = [0u32; 128];
+    let variables = head.variables;
+    let held = open(
+        head,
+        terms,
+        entries,
+        &mut order,
+        &mut rows,
+        &mut weights,
+        &mut counts,
+    );
+    let done = derivation::check_derivation(
+        bytes,
+        variables,
+        held,
+        &mut order,
+        &mut rows,
+        &mut weights,
+        &mut counts,
+    );
+    let entries = close(done.lines, &order, &rows, &weights, &counts, entries, terms);
+    let lines = done.lines as u32;
+    let head = Head { variables, lines };
+    let answer = done.answer;
+    let checked = Checked { head, answer };
+    Done { entries, checked }
+}
+
+// Checks the derivation that the bytes are.
+pub fn on_entries(bytes: &[u8], head: Head, terms: &mut [u32], entries: [Entry; 128]) -> Done
+    ensures { λ r. ⌜ leftOf (memoryAfter (r .checked .head) terms (r .entries)) (toldOfCheck (r .checked .answer))
+        ≡ checkIn (now (bytes .entry)) (memoryBefore head terms entries) ⌝ }
+{
+    if let Objection::Found(reason) = object(head, terms, entries) {
+        let checked = refused(head, reason);
+        return Done { entries, checked };
+    }
+    checked(bytes, head, terms, entries)
+}

@@ -1,0 +1,134 @@
+// The items of the data. Each is a byte for its kind, two numbers of four bytes and one of eight, and four texts, of which
+// each is its length in four bytes and then so many bytes: a name, the text that is due, and two operands. An operand is bytes,
+// or terms of four bytes each.
+use record::Amount;
+use record::Mask;
+use record::read_amount;
+use record::read_mask;
+use std::num::wrapping_add_usize;
+
+// The kinds. What is lent anew: how many variables and lines, and what every number of the areas is.
+pub const AREAS: u8 = 0;
+
+// A term of the term area: its place, the term.
+pub const TERM: u8 = 1;
+
+// A record of the table: its place, its count, its weight.
+pub const RECORD: u8 = 2;
+
+// The operations, for each how many places of the term area and how many records are lent. A filing, a check.
+pub const FILE: u8 = 3;
+
+pub const CHECK: u8 = 4;
+
+// Writing a line: its number, and an operand as long as the area.
+pub const LINE: u8 = 5;
+
+// The steps: their amount, f and g.
+pub const PLAIN_SUM: u8 = 6;
+
+pub const PLAIN_PROD: u8 = 7;
+
+pub const SIGNED_SUM: u8 = 8;
+
+pub const SIGNED_PROD: u8 = 9;
+
+// The end of the data, which is this byte alone.
+pub const END: u8 = 10;
+
+// No kind.
+const NONE: u8 = 255;
+
+// A place that no data has.
+const BEYOND: usize = 18446744073709551615;
+
+// An item: its kind and its two numbers, where the third and its texts begin, and where the next item does.
+pub struct Item {
+    pub kind: u8,
+    pub first: u32,
+    pub second: u32,
+    pub third: usize,
+    pub name: usize,
+    pub due: usize,
+    pub f: usize,
+    pub g: usize,
+    pub next: usize,
+}
+
+// The number of four bytes, or 0 where they are not there.
+pub fn short_at(data: &[u8], at: usize) -> u32 {
+    let body = read_mask(data, at);
+    match body {
+        Mask::Whole(number) => number,
+        Mask::Cut => 0,
+    }
+}
+
+// The signed number of eight bytes, or 0 where they are not there.
+pub fn signed_at(data: &[u8], at: usize) -> i64 {
+    let body = read_amount(data, at);
+    match body {
+        Amount::Whole(number) => number,
+        Amount::Cut => 0,
+    }
+}
+
+// The place behind a text.
+fn behind(data: &[u8], at: usize) -> usize {
+    let body = read_mask(data, at);
+    match body {
+        Mask::Whole(size) => wrapping_add_usize(at, 4 + size as usize),
+        Mask::Cut => BEYOND,
+    }
+}
+
+// A text, or an empty one where it is not there.
+pub fn text_at(data: &[u8], at: usize) -> &[u8] {
+    let first = wrapping_add_usize(at, 4);
+    let end = behind(data, at);
+    if end <= data.len() {
+        if first <= end {
+            return &data[first..end];
+        }
+    }
+    &data[..0]
+}
+
+// The first 65 terms of an operand: one of more is refused for these.
+pub fn terms_of(operand: &[u8]) -> [u32; 65] {
+    let mut terms = [0u32; 65];
+    let mut i: usize = 0;
+    while i < 65 {
+        terms[i] = short_at(operand, 4 * i);
+        i += 1;
+    }
+    terms
+}
+
+// The kind of the item at a place.
+pub fn kind_at(data: &[u8], at: usize) -> u8 {
+    if at < data.len() {
+        return data[at];
+    }
+    NONE
+}
+
+// The item at a place.
+pub fn item_at(data: &[u8], at: usize) -> Item {
+    let third = wrapping_add_usize(at, 9);
+    let name = wrapping_add_usize(at, 17);
+    let due = behind(data, name);
+    let f = behind(data, due);
+    let g = behind(data, f);
+    Item {
+        kind: kind_at(data, at),
+        first: short_at(data, wrapping_add_usize(at, 1)),
+        second: short_at(data, wrapping_add_usize(at, 5)),
+        third,
+        name,
+        due,
+        f,
+        g,
+        next: behind(data, g),
+    }
+}

@@ -1,0 +1,86 @@
+// The open operations on a table of any length up to 129: each holds 129 records for one operation, lends the first so
+// many of them, and gives all back. They are for the program `worked_examples`, which asks for no more than there are.
+use calculus::Mode;
+use calculus::Rule;
+use checker::Checked;
+use checker::Filed;
+use checker::LineAnswer;
+use checker::Stepped;
+use memory::Entry;
+use memory::Head;
+ghost use Prim.Native.Nat.{_≤_};
+
+// What a step leaves: the records, and the head with the answer.
+pub struct Step {
+    pub entries: [Entry; 129],
+    pub stepped: Stepped,
+}
+
+// What a check leaves.
+pub struct Check {
+    pub entries: [Entry; 129],
+    pub checked: Checked,
+}
+
+// What a filing leaves.
+pub struct Filing {
+    pub entries: [Entry; 129],
+    pub filed: Filed,
+}
+
+// Takes one step.
+pub fn take_step(
+    head: Head,
+    terms: &mut [u32],
+    entries: [Entry; 129],
+    rows: usize,
+    rule: Rule,
+    mode: Mode,
+    f: &[u32],
+    g: &[u32],
+    amount: i64,
+) -> Step
+    requires { ⌜ rows ≤ 129 ⌝ }
+{
+    let mut entries = entries;
+    let stepped = checker::take_step(head, terms, &mut entries[..rows], rule, mode, f, g, amount);
+    Step { entries, stepped }
+}
+
+// Checks the derivation that the bytes are.
+pub fn check_derivation(
+    bytes: &[u8],
+    head: Head,
+    terms: &mut [u32],
+    entries: [Entry; 129],
+    rows: usize,
+) -> Check
+    requires { ⌜ rows ≤ 129 ⌝ }
+{
+    let mut entries = entries;
+    let checked = checker::check_derivation(bytes, head, terms, &mut entries[..rows]);
+    Check { entries, checked }
+}
+
+// Files the problem that the bytes are.
+pub fn file_problem(bytes: &[u8], terms: &mut [u32], entries: [Entry; 129], rows: usize) -> Filing
+    requires { ⌜ rows ≤ 129 ⌝ }
+{
+    let mut entries = entries;
+    let filed = checker::file_problem(bytes, terms, &mut entries[..rows]);
+    Filing { entries, filed }
+}
+
+// Writes the line of a number at the front of a lent area.
+pub fn write_line(
+    area: &mut [u8],
+    head: Head,
+    terms: &[u32],
+    entries: [Entry; 129],
+    rows: usize,
+    number: usize,
+) -> LineAnswer
+    requires { ⌜ rows ≤ 129 ⌝ }
+{
+    checker::write_line(area, head, terms, &entries[..rows], number)
+}

@@ -1,0 +1,4 @@
+pub mod SubsetSteps
+pub mod FewSteps
+pub mod KeySteps
+pub mod ShiftSteps

@@ -1,0 +1,31 @@
+// Parts of a term area.
+ghost use mathlib.Core.Path.{_≡_};
+ghost use mathlib.Core.List.{_++_};
+ghost use Prim.Native.Nat.{_-_, _≤_};
+ghost use lib.ListN.{length, take, drop, replicate};
+ghost use Rattle.memory.specs.Layout.{zeros};
+
+// Whether every number of an area is zero: their bits are joined, without a branch, so that several are looked at at once.
+pub fn is_zero(area: &[u32]) -> bool
+    ensures { λ r. ⌜ r ≡ zeros (now (area .entry)) ⌝ }
+{
+    let mut bits: u32 = 0;
+    let mut i: usize = 0;
+    while i < area.len() {
+        bits = bits | area[i];
+        i += 1;
+    }
+    bits == 0
+}
+
+// Sets the numbers from start to end to zero. It is for this crate.
+pub fn clear_part(area: &mut [u32], start: usize, end: usize)
+    requires { ⌜ (start ≤ end) × (end ≤ length (now area)) ⌝ }
+    ensures { λ _. let l = now (area .entry) in ⌜ now (area .exit) ≡ take start l ++ (replicate (end - start) 0 ++ drop end l) ⌝ }
+{
+    let mut i = start;
+    while i < end {
+        area[i] = 0;
+        i += 1;
+    }
+}
