@@ -100,8 +100,8 @@ abbrev pub part-values : ℕ → ℕ → List Val
 part-values l n = sliceVal (l, 0) n ∷ []
 
 -- what the lender has while they are lent as `&mut` under the name δ, and as `&`
-abbrev pub Kept : ℕ → ℕ → List Entry → Lft → GName → Fml
-Kept n l ls κ δ = fsep (flent κ (Held R n l 0 δ)) (restF R n ls l)
+abbrev pub PartLent : ℕ → ℕ → List Entry → Lft → GName → Fml
+PartLent n l ls κ δ = fsep (flent κ (Held R n l 0 δ)) (restF R n ls l)
 
 abbrev pub Shown : ℕ → ℕ → List Entry → Lft → Fml
 Shown n l ls κ = fsep (flent κ (arr-parts (shares R) n .part fullShare (take n ls) l 0)) (restF R n ls l)
@@ -135,7 +135,7 @@ module _ {M : Type 1} (𝓤 : URA M) (H : Heap 𝓤) (A : Atoms 𝓤) (W : Given
   module _ (κ : Lft) (n : ℕ) (h : n ≤ 129) (ls : List Entry) where
     -- the first n are lent as `&mut`, and are back as zs
     kept-out : (ℓ : Lifetime) → IsRecords ls → ent 𝓤 (H .at fullShare records-type l 0 (entries-value ls))
-        (H .⇛ (ex 𝓤 (λ (δ : GName). sep 𝓤 (sem 𝓤 H A (MutSlice ℓ κ R .own (held-at l δ (take n ls)) (part-values l n))) (sem 𝓤 H A (Kept n l ls κ δ)))))
+        (H .⇛ (ex 𝓤 (λ (δ : GName). sep 𝓤 (sem 𝓤 H A (MutSlice ℓ κ R .own (held-at l δ (take n ls)) (part-values l n))) (sem 𝓤 H A (PartLent n l ls κ δ)))))
     kept-out ℓ is =
         let all : length ls ≡ 129 = records-length ls is in
         qed W (‵ (fat fullShare records-type l 0 (entries-value ls)) ∷ []) ∵ updating ! $ use1 W (‵ (cells (mem R) ls l 0)) (apart ls is) $
@@ -147,12 +147,12 @@ module _ {M : Type 1} (𝓤 : URA M) (H : Heap 𝓤) (A : Atoms 𝓤) (W : Given
         rewrite ! 0 (λ (m : ℕ). ‵ (MutSlice ℓ κ R .own (held-at l δ (take n ls)) (sliceVal (l, 0) m ∷ []))) (count n ls h all) refl $
         rewrite ! 1 (λ (m : ℕ). ‵ (flent κ (Held R m l 0 δ))) (count n ls h all) refl $
         move ! (1 ∷ 2 ∷ []) $ fjoin ! $ move ! (1 ∷ 0 ∷ []) $ at-once ! $
-        show ! (λ (δ′ : GName). sep 𝓤 (sem 𝓤 H A (MutSlice ℓ κ R .own (held-at l δ′ (take n ls)) (part-values l n))) (sem 𝓤 H A (Kept n l ls κ δ′))) δ $ done !)
+        show ! (λ (δ′ : GName). sep 𝓤 (sem 𝓤 H A (MutSlice ℓ κ R .own (held-at l δ′ (take n ls)) (part-values l n))) (sem 𝓤 H A (PartLent n l ls κ δ′))) δ $ done !)
 
-    kept-back : length ls ≡ 129 → (δ : GName) (zs : List Entry) → ent 𝓤 (sep 𝓤 (A .dead κ) (sep 𝓤 (sem 𝓤 H A (Kept n l ls κ δ)) (sem 𝓤 H A (finally R δ zs))))
+    kept-back : length ls ≡ 129 → (δ : GName) (zs : List Entry) → ent 𝓤 (sep 𝓤 (A .dead κ) (sep 𝓤 (sem 𝓤 H A (PartLent n l ls κ δ)) (sem 𝓤 H A (finally R δ zs))))
         (H .⇛ (sep 𝓤 (H .at fullShare records-type l 0 (entries-value (zs ++ drop n ls))) (fact 𝓤 (IsRecords (zs ++ drop n ls)))))
     kept-back all δ zs =
-        qed W (‵ (fdead κ) ∷ ‵ (Kept n l ls κ δ) ∷ ‵ (finally R δ zs) ∷ []) ∵ updating ! $ move ! (1 ∷ []) $ fsplit ! $ move ! (2 ∷ 0 ∷ 3 ∷ []) $
+        qed W (‵ (fdead κ) ∷ ‵ (PartLent n l ls κ δ) ∷ ‵ (finally R δ zs) ∷ []) ∵ updating ! $ move ! (1 ∷ []) $ fsplit ! $ move ! (2 ∷ 0 ∷ 3 ∷ []) $
         use3 W (later (‵ (Arr (mem R) n .lies zs l 0))) (slice-back 𝓤 H A W R κ δ zs n l 0) $ await ! tt $ at-once ! $ fsplit ! $ feqL ! (λ e.
         rewrite ! 1 (λ (m : ℕ). ‵ (cells (mem R) (drop n ls) l (at zero (mem R .size) m))) (count n ls h all ∙ sym e) refl $
         use2 W (‵ (cells (mem R) (zs ++ drop n ls) l 0)) (join-app 𝓤 H A (mem R) zs (drop n ls) l 0) $
@@ -224,23 +224,23 @@ module _ {M : Type 1} {𝓤 : URA M} {H : Heap 𝓤} {A : Atoms 𝓤} {K : Type 
       → InLocal (hold hs a (vptr (spotOf 𝓤 H E i .1) 0)) c (vint w64 n) → InLocal (lentPart hs a u (spotOf 𝓤 H E i .1) n) i (entries-value ls)
       → ((ν : ℕ) (δ : GName) → Seq K W (locals 𝓤 H (drop (suc i) E) (drop (suc i) (lentPart hs a u (spotOf 𝓤 H E i .1) n))
       ∷ locals 𝓤 H (take i E) (take i (lentPart hs a u (spotOf 𝓤 H E i .1) n)) ∷ ‵ (fdies records-type (spotOf 𝓤 H E i .1))
-      ∷ ‵ (Kept n (spotOf 𝓤 H E i .1) ls (ν ∷ []) δ) ∷ ‵ (flft (ν ∷ []) fullShare)
+      ∷ ‵ (PartLent n (spotOf 𝓤 H E i .1) ls (ν ∷ []) δ) ∷ ‵ (flft (ν ∷ []) fullShare)
       ∷ ‵ (MutSlice erased (ν ∷ []) R .own (held-at (spotOf 𝓤 H E i .1) δ (take n ls)) (part-values (spotOf 𝓤 H E i .1) n)) ∷ Γ) (runs C Λ E rest q))
       → Seq K W (locals 𝓤 H E hs ∷ Γ) (runs C Λ E (seq (assign (place a []) (addrOf (place i [])))
       (seq (assign (place u []) (aggregate (copy (place a []) ∷ copy (place c []) ∷ []))) rest)) q)
   lends-mut t {i = i} n h ls is =
       let b : ℕ = spotOf 𝓤 H E i .1 in
-      lends t n h ls (λ κ δ. MutSlice erased κ R .own (held-at b δ (take n ls)) (part-values b n)) (λ κ δ. Kept n b ls κ δ) (λ κ. kept-out 𝓤 H A W b κ n h ls erased is)
+      lends t n h ls (λ κ δ. MutSlice erased κ R .own (held-at b δ (take n ls)) (part-values b n)) (λ κ δ. PartLent n b ls κ δ) (λ κ. kept-out 𝓤 H A W b κ n h ls erased is)
 
   pub gets-mut : K → {before after : List Hold} {ν : ℕ} {δ : GName} {rest : Body} (i n : ℕ) → n ≤ 129 → (ls zs : List Entry) → IsRecords ls
       → spotOf 𝓤 H E i .0 ≡ records-type → Before 𝓤 H E before i
       → (IsRecords (zs ++ drop n ls) → Seq K W (locals 𝓤 H E (before ++ holds (entries-value (zs ++ drop n ls)) ∷ after) ∷ Γ) (runs C Λ E rest q))
       → Seq K W (‵ (finally R δ zs) ∷ locals 𝓤 H (drop (suc i) E) after ∷ locals 𝓤 H (take i E) before ∷ ‵ (fdies records-type (spotOf 𝓤 H E i .1))
-      ∷ ‵ (Kept n (spotOf 𝓤 H E i .1) ls (ν ∷ []) δ) ∷ ‵ (flft (ν ∷ []) fullShare) ∷ Γ) (runs C Λ E rest q)
+      ∷ ‵ (PartLent n (spotOf 𝓤 H E i .1) ls (ν ∷ []) δ) ∷ ‵ (flft (ν ∷ []) fullShare) ∷ Γ) (runs C Λ E rest q)
   gets-mut t {ν = ν} {δ = δ} i n h ls zs is e p k =
       let b : ℕ = spotOf 𝓤 H E i .1 in
       move t (4 ∷ 0 ∷ []) $ join t $ move t (1 ∷ 2 ∷ 3 ∷ 0 ∷ []) $
-      gets-back t i (zs ++ drop n ls) (‵ (Kept n b ls (ν ∷ []) δ) ⊛ ‵ (finally R δ zs)) (kept-back 𝓤 H A W b (ν ∷ []) n h ls (records-length ls is) δ zs) e p k
+      gets-back t i (zs ++ drop n ls) (‵ (PartLent n b ls (ν ∷ []) δ) ⊛ ‵ (finally R δ zs)) (kept-back 𝓤 H A W b (ν ∷ []) n h ls (records-length ls is) δ zs) e p k
 
   -- as `&`: they are as they were
   pub lends-shr : K → {hs : List Hold} {i a u c : ℕ} {rest : Body} (n : ℕ) → n ≤ 129 → (ls : List Entry) {ρ σ : Ty} {ℓ : Lifetime} {m : Mutability} → IsRecords ls
