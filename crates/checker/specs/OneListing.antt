@@ -10,8 +10,8 @@ use Rattle.configuration.specs.Configuration.{total}
 use Rattle.configuration.specs.Made.{Made}
 use Rattle.memory.specs.Memory.{Memory, imageOf, sized}
 use Rattle.problem.specs.Problem.{filed, fileProblem}
-use Rattle.problem.specs.Entries.{entries, agrees}
-use Rattle.problem.specs.ProblemLaws.{same-problem, Permuted, permuted}
+use Rattle.problem.specs.Entries.{entries, agrees, Permuted}
+use Rattle.problem.specs.ProblemLaws.{same-problem, permuted}
 use Rattle.checker.specs.Checker.{Left, leftOf, fileIn, listedIn, codeIn}
 use Rattle.checker.specs.CheckerLaws.{not-refusal, file-sized, file-unsized}
 

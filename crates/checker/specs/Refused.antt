@@ -10,8 +10,7 @@ use Rattle.run.specs.BooleanLaws.{of-true}
 use Rattle.refusal.specs.Outcome.{Outcome, accepted, Told, refusedAt}
 use Rattle.configuration.specs.Configuration.{Line}
 use Rattle.configuration.specs.Made.{Made}
-use Rattle.walk.specs.Walk.{Reader, readAll}
-use Rattle.walk.specs.WalkLaws.{Refusal, acceptedBytes}
+use Rattle.walk.specs.Walk.{Reader, readAll, Refusal, acceptedBytes}
 use Rattle.memory.specs.Memory.{Memory, standingOf, imageOf, sized, wellFormed}
 use Rattle.problem.specs.Problem.{filing, empty, fileProblem}
 use Rattle.problem.specs.RefusedLaws.{refused-number, refused-first, refused-prefix}

@@ -20,9 +20,9 @@ use Rattle.calculus.specs.declared.Mode.the-variants.{Plain, Signed}
 use Rattle.record.specs.Letters.{letterN, letterZ, letterM, letterK, letterS, letterP, letterB}
 use Rattle.record.specs.Record.{whole, numberAt, signed}
 use Rattle.record.specs.RecordLaws.{number-take, whole-take}
-use Rattle.walk.specs.Walk.{Progress, begun, past, over, walk}
+use Rattle.walk.specs.Walk.{Progress, begun, past, over, walk, Refusal, acceptedBytes}
 use Rattle.walk.specs.Work.{termAdded}
-use Rattle.walk.specs.WalkLaws.{told-refused, unless-ind, mapped-ind, IfAccepted, Ends, same-outcome, Refusal, acceptedBytes, Local, refused-record, turns-records, records-prefix}
+use Rattle.walk.specs.WalkLaws.{told-refused, unless-ind, mapped-ind, IfAccepted, Ends, same-outcome, Local, refused-record, turns-records, records-prefix}
 use Rattle.walk.specs.WorkLaws.{term-inside, term-take}
 use Rattle.derivation.specs.Derivation.{State, fresh, going, having, closes, onMode, onTerm, onChoice, afterStep, onStep, claimFits, onClaim, onRecord, checking, Confirmation, checkDerivation}
 use Rattle.derivation.specs.DerivationLaws.{record-ind, walked, madeBy, check-is, check-lines}

@@ -32,3 +32,10 @@ agreesBelow (suc k) f g = Bool·beq (eval f k) (eval g k) && agreesBelow k f g
 
 unfoldable pub agrees : ℕ → List ℕ → List ℕ → Bool
 agrees n f g = agreesBelow (2 ^ n) f g
+
+-- ---- entries in another order
+pub data Permuted : List Line → List Line → Type 0 where
+  itself : (C : List Line) → Permuted C C
+  skip : (l : Line) (C D : List Line) → Permuted C D → Permuted (l ∷ C) (l ∷ D)
+  swap : (l m : Line) (C : List Line) → Permuted (l ∷ m ∷ C) (m ∷ l ∷ C)
+  trans : (C D E : List Line) → Permuted C D → Permuted D E → Permuted C E

@@ -26,7 +26,7 @@ use Rattle.walk.specs.Walk.{Progress, begun, past, walk, readAll, gathered}
 use Rattle.walk.specs.WalkLaws.{unless-ind, IfAccepted, walk-ind, walk-keeps}
 use Rattle.walk.specs.WorkLaws.{term-ind, term-sum}
 use Rattle.problem.specs.Problem.{State, empty, having, weightFits, folded, onVariables, onTerm, onWeight, onClause, onRecord, filing, filed, fileProblem}
-use Rattle.problem.specs.Entries.{entryOf, entries, agreesBelow, agrees}
+use Rattle.problem.specs.Entries.{entryOf, entries, agreesBelow, agrees, Permuted, itself, skip, swap, trans}
 use Rattle.run.specs.BooleanLaws as B
 use Rattle.polynomial.specs.PolynomialLaws as P
 
@@ -372,12 +372,6 @@ same-problem s t es et e h =
         ∙ ap (λ (x : Told (Unit {0})). record { variables = b .variables; lines = b .lines; told = x }) k
 
 -- ---- in any order of entry
-pub data Permuted : List Line → List Line → Type 0 where
-  itself : (C : List Line) → Permuted C C
-  skip : (l : Line) (C D : List Line) → Permuted C D → Permuted (l ∷ C) (l ∷ D)
-  swap : (l m : Line) (C : List Line) → Permuted (l ∷ m ∷ C) (m ∷ l ∷ C)
-  trans : (C D E : List Line) → Permuted C D → Permuted D E → Permuted C E
-
 total-permuted : (test : List ℕ → Bool) {C D : List Line} → Permuted C D → total test C ≡ total test D
 unfolding total
 total-permuted test (itself C) = refl

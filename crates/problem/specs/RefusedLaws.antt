@@ -15,9 +15,9 @@ use Rattle.configuration.specs.Limits.{within}
 use Rattle.record.specs.Letters.{letterV, letterM, letterW, letterC}
 use Rattle.record.specs.Record.{whole, numberAt, signed, signedAt}
 use Rattle.record.specs.RecordLaws.{number-take, whole-take}
-use Rattle.walk.specs.Walk.{Progress, begun, past, readAll}
+use Rattle.walk.specs.Walk.{Progress, begun, past, readAll, Refusal, acceptedBytes}
 use Rattle.walk.specs.Work.{termAdded}
-use Rattle.walk.specs.WalkLaws.{told-refused, Ends, same-outcome, unless-ind, mapped-ind, IfAccepted, Local, Refusal, refused-record, acceptedBytes, accepted-bytes}
+use Rattle.walk.specs.WalkLaws.{told-refused, Ends, same-outcome, unless-ind, mapped-ind, IfAccepted, Local, refused-record, accepted-bytes}
 use Rattle.problem.specs.Problem.{State, empty, having, weightFits, folded, onVariables, onTerm, onWeight, onClause, onRecord, filing, fileProblem}
 use Rattle.problem.specs.ProblemLaws.{record-ind}
 use Rattle.walk.specs.WorkLaws as W

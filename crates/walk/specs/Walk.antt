@@ -1,10 +1,12 @@
 -- Records one after the other, in either file. Document 01: "A record that doesn't come out whole ends the walk there and then." Each kind of file has
 -- a reader: what a record does to the state, and whether the state is complete where the bytes end.
+use mathlib.Core.Path.{_≡_}
+use mathlib.Core.Logic.{_⊎_}
 use mathlib.Core.Bool.{Bool, cond}
 use mathlib.Core.List.{List, [], _++_}
-use Prim.Native.Nat.{ℕ, zero, suc, _+_}
+use Prim.Native.Nat.{ℕ, zero, suc, _+_, _≤_, _<_}
 use lib.Dec.{leb}
-use lib.ListN.{length}
+use lib.ListN.{length, take}
 use Rattle.refusal.specs.Outcome.{Outcome, accepted, refused, Stop, nothing, refusedFor, Reached, Told, answered, refusedAt}
 
 -- where the next record begins, how many are accepted, and the state that they made
@@ -41,6 +43,15 @@ walk R (suc k) s p = cond (leb (length s) (p .at)) (over R p) (next p (λ q. wal
 
 abbrev pub readAll : {S : Type 0} → Reader S → List ℕ → S → Reached (Progress S)
 readAll R s x = walk R (length s) s (begun x)
+
+-- ---- where a walk is refused
+-- the bytes of the accepted records
+abbrev pub acceptedBytes : {S : Type 0} → Reader S → List ℕ → S → List ℕ
+acceptedBytes R s x = take ((readAll R s x) .reached .at) s
+
+-- a refusal with n after the progress p: the bytes end there, too early, or the record that begins there is refused with n
+abbrev pub Refusal : {S : Type 0} → Reader S → List ℕ → Progress S → ℕ → Type 0
+Refusal R s p n = ((length s ≤ p .at) × (n ≡ 15)) ⊎ ((p .at < length s) × (R .onRecord s p ≡ refused n))
 
 -- what is told where a walk ends: an answer, or the refusal that stopped it, which "names the number of records accepted before it plus one"
 abbrev pub verdict : {A : Type 0} → ℕ → A → Stop → Told A

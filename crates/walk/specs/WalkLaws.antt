@@ -1,7 +1,7 @@
 -- Laws of the walk over records, whatever the reader: induction over the accepted records; one turn; and for a reader whose records lie in the bytes and
 -- depend on no byte after them: what a refusal means, and that the first accepted records, alone, are walked through to their end.
 use mathlib.Core.Path.{_≡_, refl, sym, ap, _∙_}
-use mathlib.Core.Logic.{_⊎_, inl, inr}
+use mathlib.Core.Logic.{inl, inr}
 use mathlib.Core.Bool.{Bool, true, false, cond}
 use mathlib.Core.List.{List, [], _++_}
 use Prim.Native.Nat.{ℕ, zero, suc, _+_, _≤_, _<_}
@@ -11,7 +11,7 @@ use lib.ListN.{length, take}
 use lib.Seq.{length-take-le}
 use Rattle.refusal.specs.Outcome.{Outcome, accepted, refused, unless, mapped, Stop, nothing, refusedFor, Reached, refusedAt}
 use Rattle.run.specs.BooleanLaws.{is-true, is-false, of-true}
-use Rattle.walk.specs.Walk.{Progress, begun, Reader, next, over, walk, readAll, verdict, onward, gathered}
+use Rattle.walk.specs.Walk.{Progress, begun, Reader, next, over, walk, readAll, acceptedBytes, Refusal, verdict, onward, gathered}
 
 -- ---- one outcome
 -- what holds of every refusal, and of what follows a test that holds, holds behind the test
@@ -103,19 +103,12 @@ module _ {S : Type 0} (R : Reader S) where
       go false a (refused n) e rest = sym (stays i s p n (nleb→lt (length s) (p .at) (rw a tt)) e)
 
   -- ---- what a refusal means: the end of the bytes before all was complete, or the record where the walk stopped, for its own reason
-  abbrev pub Refusal : List ℕ → Progress S → ℕ → Type 0
-  Refusal s p n = ((length s ≤ p .at) × (n ≡ 15)) ⊎ ((p .at < length s) × (R .onRecord s p ≡ refused n))
-
   over-refused : (p : Progress S) (n : ℕ) → over R p .stop ≡ refusedFor n → n ≡ 15
   over-refused p n e = go (R .complete (p .state)) e
     where
       go : (b : Bool) → cond b nothing (refusedFor 15) ≡ refusedFor n → n ≡ 15
       go true d = let z : _≡_ {A = ℕ} 0 1 = cc in let x : ⊥ = omega arith in absurd x
       go false d = cc
-
-  -- the bytes of the accepted records
-  abbrev pub acceptedBytes : List ℕ → S → List ℕ
-  acceptedBytes s x = take ((readAll R s x) .reached .at) s
 
 -- ---- where a record ends, if it is accepted; one that is the same in the first K bytes, if it ends there, is accepted in them
 abbrev pub Ends : {S : Type 0} → ℕ → Outcome (Progress S) → Type 0
