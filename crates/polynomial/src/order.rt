@@ -1,8 +1,7 @@
 // The order of polynomials.
 use crate::Ordering;
 ghost use mathlib.Core.Path.{_≡_};
-ghost use Prim.Native.Nat.{min, _≤_};
-ghost use lib.ListN.{length};
+ghost use Prim.Native.Nat.{min};
 ghost use Rattle.term.specs.Term.{before};
 ghost use Rattle.run.specs.Run.{sorted};
 ghost use Rattle.polynomial.specs.Polynomial.{orderOf};
@@ -41,13 +40,16 @@ pub fn compare(f: &[u32], g: &[u32]) -> Ordering
     Ordering::Same
 }
 
-// Whether a run of at most 64 terms is in strict written order. It is for the crates `configuration` and `calculus`, which test the length.
+// Whether a run of terms is in strict written order.
 pub fn in_order(terms: &[u32]) -> bool
-    requires { ⌜ length (now terms) ≤ 64 ⌝ }
     ensures { λ r. ⌜ r ≡ sorted before (now (terms .entry)) ⌝ }
 {
-    let count = terms.len();
-    let mut keys = [0u64; 64];
-    term::keys_with(0, terms, &mut keys[..count]);
-    run::descends(&keys[..count])
+    let mut i: usize = 1;
+    while i < terms.len() {
+        if !term::precedes(terms[i - 1], terms[i]) {
+            return false;
+        }
+        i += 1;
+    }
+    true
 }

@@ -1,60 +1,82 @@
--- `in_order` meets its contract: the keys of the terms descend exactly where the terms are in the written order.
-use mathlib.Core.Path.{sym, ap, _∙_, _≡_}
-use mathlib.Core.List.{List}
-use Prim.Native.Nat.{ℕ}
+-- `in_order` meets its contract. The invariant: the run is in order just if its part from the term before `i` on is.
+use mathlib.Core.Path.{_≡_, sym, _∙_}
+use Prim.Native.Nat.{_-_, _≤_}
 use native.Mathlib.Omega.{arith}
-use lib.Bits.{bitOr}
-use lib.ListN.{length, drop, replicate, length-append, length-map}
-use lib.Seq.{length-take-le, take-at}
+use lib.ListN.{length, drop}
 use borrow.Author.Needs.{needs}
-use Rattle.run.specs.Run.{descending, sorted}
-use Rattle.term.specs.Term.{keyOf, keysWith}
-use Rattle.polynomial.proofs.Keys.{below-each, in-order}
+use borrow.Author.Tests.{not-true, not-false}
+use Rattle.run.specs.Run.{sorted}
+use Rattle.run.proofs.Neighbours.{stops, goes-on, ends}
+use Rattle.term.specs.Term.{before}
 use Rattle.polynomial.proofs.order.in_order.Statement.{statement}
 use Rattle.polynomial.proofs.order.in_order.Tie as tie
 
--- as many keys as terms
-size : (terms K : List ℕ) → K ≡ keysWith 0 terms → length K ≡ length terms
-size terms K e = ap length e ∙ length-map terms (λ u. keyOf (bitOr 0 u))
+abbrev Inv-loop : tie.InvT-loop
+Inv-loop terms i₀ i = (1 ≤ i) × (sorted before (drop (i - 1) terms) ≡ sorted before terms)
 
-array-borrow-prefix-keys : tie.Need-array-borrow-prefix-keys
-array-borrow-prefix-keys c = search needs
+abbrev μ-loop : tie.MeasureT-loop
+μ-loop terms i₀ i = length terms - i
 
-slice-aggregate-keys-with : tie.Need-slice-aggregate-keys-with
-slice-aggregate-keys-with c = sym (length-take-le _ _ (array-borrow-prefix-keys (c .before)))
+loop-holds : tie.Need-loop-holds Inv-loop μ-loop
+loop-holds c = search needs
 
-keys-with-requires : tie.Need-keys-with-requires
-keys-with-requires c κs = sym (length-take-le _ _ (array-borrow-prefix-keys (c .before)))
+sub-precedes : tie.Need-sub-precedes Inv-loop μ-loop
+sub-precedes c = search needs
 
-array-share-prefix-keys : tie.Need-array-share-prefix-keys
-array-share-prefix-keys c =
-    let terms = c .before .before .before .before .args .terms .now in
-    let K = c .before .keys-with .last .1 .1 .0 in
-    omega (arith, length-append K (drop (length terms) (replicate 64 0)), size terms K (c .before .keys-with .ensures))
+mul-precedes : tie.Need-mul-precedes Inv-loop μ-loop
+mul-precedes c = search needs
 
-slice-aggregate-descends : tie.Need-slice-aggregate-descends
-slice-aggregate-descends c = sym (length-take-le _ _ (array-share-prefix-keys (c .before)))
+shared-slice-read-precedes : tie.Need-shared-slice-read-precedes Inv-loop μ-loop
+shared-slice-read-precedes c = search needs
 
-descends-requires : tie.Need-descends-requires
-descends-requires c κs = search needs
+mul-precedes-2 : tie.Need-mul-precedes-2 Inv-loop μ-loop
+mul-precedes-2 c = search needs
 
-returns : tie.Need-returns
+shared-slice-read-precedes-2 : tie.Need-shared-slice-read-precedes-2 Inv-loop μ-loop
+shared-slice-read-precedes-2 c = search needs
+
+precedes-requires : tie.Need-precedes-requires Inv-loop μ-loop
+precedes-requires c κs = search needs
+
+returns : tie.Need-returns Inv-loop μ-loop
 returns c =
-    let s = c .before .before .before .before .before in
-    let terms = s .before .args .terms .now in
-    let k = c .before .before .before .keys-with in
-    let K = k .last .1 .1 .0 in
-    c .descends .ensures ∙ ap (sorted descending) (take-at K _ (length terms) (size terms K (k .ensures)))
-    ∙ in-order terms K (below-each terms (λ i h. omega (arith, s .shared-slice-known .given i))) (k .ensures)
+    let k = c .before .precedes in
+    let l = c .before .before .before .before .before .loop in
+    stops before (c .before .before .before .before .before .before .before .args .terms .now) (l .i) (l .inv .0) (omega arith)
+    (sym (k .ensures) ∙ not-true (k .result) (c .if1 .taken)) (l .inv .1)
+
+add-i : tie.Need-add-i Inv-loop μ-loop
+add-i c = search needs
+
+loop-less : tie.Need-loop-less Inv-loop μ-loop
+loop-less c = search needs
+
+loop-again : tie.Need-loop-again Inv-loop μ-loop
+loop-again c =
+    let k = c .before .precedes in
+    let l = c .before .before .before .before .before .loop in
+    let passed = goes-on before (c .before .before .before .before .before .before .before .args .terms .now) (l .i) (l .inv .0) (omega arith)
+    (sym (k .ensures) ∙ not-false (k .result) (c .if1 .left)) (l .inv .1) in
+    (omega arith, passed)
+
+returns-2 : tie.Need-returns-2 Inv-loop μ-loop
+returns-2 c = ends before (c .before .before .before .args .terms .now) (c .before .loop .i) (c .before .loop .inv .0) (omega arith) (c .before .loop .inv .1)
 
 pub in-order-spec : {M : Type 1} → statement M
 in-order-spec =
     tie.close
     (tie.spec
-    array-borrow-prefix-keys
-    slice-aggregate-keys-with
-    keys-with-requires
-    array-share-prefix-keys
-    slice-aggregate-descends
-    descends-requires
-    returns)
+    Inv-loop
+    μ-loop
+    loop-holds
+    sub-precedes
+    mul-precedes
+    shared-slice-read-precedes
+    mul-precedes-2
+    shared-slice-read-precedes-2
+    precedes-requires
+    returns
+    add-i
+    loop-less
+    loop-again
+    returns-2)
