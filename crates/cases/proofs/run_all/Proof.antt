@@ -1,4 +1,4 @@
--- `run_all` is sound: the numbers come to an end.
+-- `run_all` is sound: the numbers, of three digits, come to an end.
 use mathlib.Core.Path.{_≡_, refl, _∙_}
 use Prim.Native.Nat.{_-_}
 use lib.ListN.{length}
@@ -10,7 +10,7 @@ abbrev Inv-loop : tie.InvT-loop
 Inv-loop out₀ number₀ out number = length out ≡ length out₀
 
 abbrev μ-loop : tie.MeasureT-loop
-μ-loop out₀ number₀ out number = 237 - number
+μ-loop out₀ number₀ out number = 1000 - number
 
 loop-holds : tie.Need-loop-holds Inv-loop μ-loop
 loop-holds c = refl
