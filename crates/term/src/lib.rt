@@ -4,7 +4,7 @@ ghost use Prim.Native.Nat.{_<_, _^_};
 ghost use lib.ListN.{length};
 ghost use Rattle.term.specs.Term.{degreeOf, before, keyOf, keysWith};
 
-// How many variables a term has.
+// How many variables a term has, by the language's own count of ones (02, Ask 4).
 pub fn degree(mask: u32) -> u32
     ensures { λ r. ⌜ r ≡ degreeOf mask ⌝ }
 {
@@ -26,8 +26,8 @@ pub fn precedes(a: u32, b: u32) -> bool
     key(b) < key(a)
 }
 
-// Writes the keys of the products of a term with each term of a run. It is for the crates `mask` and `polynomial`, whose functions
-// lend an area of the run's length.
+// Writes the keys of the products of a term with each term of a run. It is for the crate `mask`, whose functions lend an area of the
+// run's length.
 pub fn keys_with(term: u32, terms: &[u32], out: &mut [u64])
     requires { ⌜ length (now terms) ≡ length (now out) ⌝ }
     ensures { λ _. ⌜ now (out .exit) ≡ keysWith term (now (terms .entry)) ⌝ }
