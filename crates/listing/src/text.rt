@@ -1,5 +1,5 @@
 // Writers of text: each puts its text into bytes from a place on, and answers the place behind it. They are for this
-// crate and for the lines of `report` and `boundary`, which have made room.
+// crate and for `checker`, `report` and `boundary`, which have made room.
 ghost use mathlib.Core.Path.{_≡_};
 ghost use mathlib.Core.List.{[], _∷_};
 ghost use Prim.Native.Nat.{_+_, _≤_, _<_};

@@ -15,16 +15,16 @@ pub fn no_entries() -> [Entry; 128]
     }; 128]
 }
 
-// The record of a line. It is for this crate and `checker`, which have tested the length.
-pub fn line_at(table: &[Entry], i: usize) -> Entry
+// The record of a line.
+fn line_at(table: &[Entry], i: usize) -> Entry
     requires { ⌜ i < length (now table) ⌝ }
     ensures { λ r. ⌜ r ≡ getD (now (table .entry)) i unused ⌝ }
 {
     table[i]
 }
 
-// Replaces the record of a line. It is for this crate and `checker`.
-pub fn set_line(table: &mut [Entry], i: usize, entry: Entry)
+// Replaces the record of a line.
+fn set_line(table: &mut [Entry], i: usize, entry: Entry)
     requires { ⌜ i < length (now table) ⌝ }
     ensures { λ _. ⌜ now (table .exit) ≡ set (now (table .entry)) i entry ⌝ }
 {
