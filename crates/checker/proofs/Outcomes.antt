@@ -16,7 +16,8 @@ use Rattle.refusal.specs.declared.Objection.{Objection}
 use Rattle.refusal.specs.declared.Objection.the-variants.{Nothing, Found}
 use Rattle.configuration.specs.Configuration.{Line}
 use Rattle.configuration.specs.Made.{Made}
-use Rattle.memory.specs.Memory.{Memory, memoryOf, standingOf, imageOf, wellFormed}
+use Rattle.memory.specs.Memory.{Memory, memoryOf, backToBack, standingOf, imageOf, wellFormed}
+use Rattle.memory.specs.MemoryLaws.{back-to-back}
 use Rattle.memory.specs.declared.Entry.{Entry}
 use Rattle.memory.specs.declared.Head.{Head}
 use Rattle.checker.specs.CheckerLaws.{not-sized, not-formed, admitted-well}
@@ -27,19 +28,19 @@ module _ (m : Memory) where
   abbrev passed : Outcome (Unit {0})
   passed = accepted tt
 
-  pub not-long : (length (m .terms) ≡ 8192 → ⊥) → refused 1 ≡ admitted m passed
-  not-long h = sym (not-sized m passed (rw (ne-eqb (length (m .terms)) 8192 h)))
+  pub not-long : (length (m .terms) ≡ 8192 → ⊥) → refused 1 ≡ admitted backToBack m passed
+  not-long h = sym (not-sized backToBack m passed (rw (ne-eqb (length (m .terms)) 8192 h)))
 
-  pub ill-formed : length (m .terms) ≡ 8192 → length (m .table) ≡ 128 → wellFormed m ≡ false → refused 2 ≡ admitted m passed
-  ill-formed s t h = sym (not-formed m passed (rw (eq-eqb (length (m .terms)) 8192 s, eq-eqb (length (m .table)) 128 t)) h)
+  pub ill-formed : length (m .terms) ≡ 8192 → length (m .table) ≡ 128 → wellFormed m ≡ false → refused 2 ≡ admitted backToBack m passed
+  ill-formed s t h = sym (not-formed backToBack m passed (rw (eq-eqb (length (m .terms)) 8192 s, eq-eqb (length (m .table)) 128 t)) h)
 
-  pub all-fit : wellFormed m ≡ true → passed ≡ admitted m passed
-  all-fit h = sym (admitted-well m passed (of-true h))
+  pub all-fit : wellFormed m ≡ true → passed ≡ admitted backToBack m passed
+  all-fit h = sym (admitted-well back-to-back m passed (of-true h))
 
   -- what code finds
-  module _ (found : Objection) (tested : objected found passed ≡ admitted m passed) where
-    pub admitted-as : {A : Type 0} (o : Outcome A) → objected found o ≡ admitted m o
-    admitted-as o = go found (memoryTests m) o tested
+  module _ (found : Objection) (tested : objected found passed ≡ admitted backToBack m passed) where
+    pub admitted-as : {A : Type 0} (o : Outcome A) → objected found o ≡ admitted backToBack m o
+    admitted-as o = go found (memoryTests backToBack m) o tested
       where
         go : {A : Type 0} (found : Objection) (ts : List Test) (o : Outcome A) → objected found passed ≡ passing ts passed → objected found o ≡ passing ts o
         go Nothing [] o e = refl
@@ -49,7 +50,7 @@ module _ (m : Memory) where
         go (Found r) (test n false ∷ ts) o e = ap refused (same-refused e)
 
     pub well : found ≡ Nothing → T (wellFormed m)
-    well e = of-true (passing-taken (memoryTests m) passed (sym tested ∙ ap (λ (x : Objection). objected x passed) e) .0 .1 .0)
+    well e = of-true (passing-taken (memoryTests backToBack m) passed (sym tested ∙ ap (λ (x : Objection). objected x passed) e) .0 .1 .0)
 
 -- ---- what is written back
 pub closed : {A : Type 0} (n : ℕ) (k : Memory) (L : List Line) (told : Told A) (x : Made A) → k ≡ imageOf n L
@@ -61,7 +62,7 @@ closed {A} n k L told x e f =
 module _ (m : Memory) (step : List Line → Outcome (List Line)) (L N : List Line) (held : L ≡ standingOf m) (found : Objection)
     (made : _≡_ {A = Reached (List Line)} (record { reached = N; stop = stopOf found }) (after L (step L))) where
   abbrev outcome : List Line → Left (Unit {0})
-  outcome l = leftBy m (mapped (stepped (m .variables)) (step l))
+  outcome l = leftBy backToBack m (mapped (stepped (m .variables)) (step l))
 
   abbrev reached : Objection → Reached (List Line)
   reached o = record { reached = N; stop = stopOf o }
@@ -69,12 +70,12 @@ module _ (m : Memory) (step : List Line → Outcome (List Line)) (L N : List Lin
   pub step-refused : (reason : Reason) → found ≡ Found reason → leftOf m (refusedAt 0 (numberOf reason)) ≡ outcome (standingOf m)
   step-refused reason e =
       let s : step L ≡ refused (numberOf reason) = after-refused L N (numberOf reason) (step L) (ap reached (sym e) ∙ made) .0 in
-      ap (λ (o : Outcome (List Line)). leftBy m (mapped (stepped (m .variables)) o)) (sym s) ∙ ap outcome held
+      ap (λ (o : Outcome (List Line)). leftBy backToBack m (mapped (stepped (m .variables)) o)) (sym s) ∙ ap outcome held
 
   pub step-taken : found ≡ Nothing → (k : Memory) → k ≡ imageOf (m .variables) N → leftOf k done ≡ outcome (standingOf m)
   step-taken e k i =
       let s : step L ≡ accepted N = after-accepted L N (step L) (ap reached (sym e) ∙ made) in
-      ap (λ (l : Memory). leftOf l done) i ∙ ap (λ (o : Outcome (List Line)). leftBy m (mapped (stepped (m .variables)) o)) (sym s) ∙ ap outcome held
+      ap (λ (l : Memory). leftOf l done) i ∙ ap (λ (o : Outcome (List Line)). leftBy backToBack m (mapped (stepped (m .variables)) o)) (sym s) ∙ ap outcome held
 
 -- ---- a table by reference: t is what was loaded from ls, v what was made of it, and zs what was stored
 pub stored : {A : Type 0} (op : Memory → Left A) (h k : Head) (ts us : List ℕ) (t ls v zs : List Entry) (told : Told A) → t ≡ ls

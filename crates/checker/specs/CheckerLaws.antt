@@ -5,19 +5,20 @@ use mathlib.Core.Bool.{true, false}
 use mathlib.Core.List.{List, [], _∷_}
 use Prim.Native.Nat.{ℕ}
 use native.Mathlib.Omega.{arith}
-use lib.Dec.{T}
+use lib.Dec.{T, leb}
 use lib.IntN.{ℤ}
 use Rattle.run.specs.BooleanLaws.{is-true}
-use Rattle.refusal.specs.Outcome.{Outcome, accepted, refused, mapped, Test, test, passing, Told, answered, refusedAt}
+use Rattle.refusal.specs.Outcome.{Outcome, accepted, refused, unless, mapped, Test, test, passing, Told, answered, refusedAt}
 use Rattle.configuration.specs.Configuration.{Line}
-use Rattle.memory.specs.Memory.{Memory, standingOf, imageOf, sized, wellFormed}
-use Rattle.memory.specs.MemoryLaws.{well-sized}
+use Rattle.memory.specs.Memory.{Memory, Layout, sized, standingUnder, imageUnder, wellFormedUnder, Faithful}
+use Rattle.memory.specs.LayoutLaws.{well-sized}
 use Rattle.calculus.specs.Calculus.{directStep}
 use Rattle.calculus.specs.declared.Rule.{Rule}
 use Rattle.calculus.specs.declared.Mode.{Mode}
 use Rattle.problem.specs.Problem.{fileProblem}
 use Rattle.derivation.specs.Derivation.{checkDerivation}
-use Rattle.checker.specs.Checker.{memoryTests, admitted, leftOf, leftBy, stepped, stepIn, checkIn, lent, fileIn}
+use Rattle.listing.specs.Listing.{textOf}
+use Rattle.checker.specs.Checker.{leftOf, stepped, lent, writtenBy, fitting, memoryTests, admitted, leftBy, stepUnder, checkUnder, fileUnder, writeUnder}
 
 -- ---- tests in front of what is made of an outcome
 passing-mapped : {A B : Type 0} (h : A → B) (ts : List Test) (o : Outcome A) → passing ts (mapped h o) ≡ mapped h (passing ts o)
@@ -33,37 +34,49 @@ pub same-refusal : {A : Type 0} {j k i n : ℕ} → _≡_ {A = Told A} (refusedA
 same-refusal e = (cc, cc)
 
 -- ---- a memory that is refused, and one that is not
-module _ {A : Type 0} (m : Memory) (o : Outcome A) where
-  pub not-sized : sized m ≡ false → admitted m o ≡ refused 1
+module _ (l : Layout) {A : Type 0} (m : Memory) (o : Outcome A) where
+  pub not-sized : sized m ≡ false → admitted l m o ≡ refused 1
   not-sized h = rw h
 
-  pub not-formed : sized m ≡ true → wellFormed m ≡ false → admitted m o ≡ refused 2
+  pub not-formed : sized m ≡ true → wellFormedUnder l m ≡ false → admitted l m o ≡ refused 2
   not-formed h k = rw (h, k)
 
-  pub admitted-well : T (wellFormed m) → admitted m o ≡ o
-  admitted-well h = rw (is-true (sized m) (well-sized m h), is-true (wellFormed m) h)
+pub admitted-well : {l : Layout} (q : Faithful l) {A : Type 0} (m : Memory) (o : Outcome A) → T (wellFormedUnder l m) → admitted l m o ≡ o
+admitted-well {l} q m o h = rw (is-true (sized m) (well-sized l q m h), is-true (wellFormedUnder l m) h)
 
 -- ---- the operations
-module _ (r : Rule) (d : Mode) (f g : List ℕ) (w : ℤ) (m : Memory) where
-  pub step-admitted : stepIn r d f g w m ≡ leftBy m (mapped (stepped (m .variables)) (admitted m (directStep r d f g w (m .variables) (standingOf m))))
-  unfolding stepIn
-  step-admitted = ap (leftBy m) (passing-mapped (stepped (m .variables)) (memoryTests m) (directStep r d f g w (m .variables) (standingOf m)))
+module _ (l : Layout) where
+  pub step-admitted : (r : Rule) (d : Mode) (f g : List ℕ) (w : ℤ) (m : Memory)
+      → stepUnder l r d f g w m ≡ leftBy l m (mapped (stepped (m .variables)) (admitted l m (directStep r d f g w (m .variables) (standingUnder l m))))
+  unfolding stepUnder
+  step-admitted r d f g w m =
+      ap (leftBy l m) (passing-mapped (stepped (m .variables)) (memoryTests l m) (directStep r d f g w (m .variables) (standingUnder l m)))
 
-  pub step-well : T (wellFormed m) → stepIn r d f g w m ≡ leftBy m (mapped (stepped (m .variables)) (directStep r d f g w (m .variables) (standingOf m)))
-  step-well h = step-admitted ∙ ap (λ (o : Outcome (List Line)). leftBy m (mapped (stepped (m .variables)) o)) (admitted-well m (directStep r d f g w (m .variables) (standingOf m)) h)
+  module _ (s : List ℕ) (m : Memory) where
+    pub check-admitted : checkUnder l s m ≡ leftBy l m (admitted l m (accepted (checkDerivation s (m .variables) (standingUnder l m))))
+    unfolding checkUnder
+    check-admitted = refl
 
-module _ (s : List ℕ) (m : Memory) where
-  pub check-admitted : checkIn s m ≡ leftBy m (admitted m (accepted (checkDerivation s (m .variables) (standingOf m))))
-  unfolding checkIn
-  check-admitted = refl
+    pub file-sized : sized m ≡ true → (let x = fileProblem s in fileUnder l s m ≡ leftOf (imageUnder l (x .variables) (x .lines)) (x .told))
+    unfolding fileUnder
+    file-sized h = rw h
 
-  pub check-well : T (wellFormed m) → (let x = checkDerivation s (m .variables) (standingOf m) in checkIn s m ≡ leftOf (imageOf (x .variables) (x .lines)) (x .told))
-  check-well h = check-admitted ∙ ap (leftBy m) (admitted-well m (accepted (checkDerivation s (m .variables) (standingOf m))) h)
+    pub file-unsized : sized m ≡ false → fileUnder l s m ≡ leftOf (lent (m .terms) (m .table)) (refusedAt 0 1)
+    unfolding fileUnder
+    file-unsized h = rw h
 
-  pub file-sized : sized m ≡ true → (let x = fileProblem s in fileIn s m ≡ leftOf (imageOf (x .variables) (x .lines)) (x .told))
-  unfolding fileIn
-  file-sized h = rw h
+module _ {l : Layout} (q : Faithful l) where
+  pub step-well : (r : Rule) (d : Mode) (f g : List ℕ) (w : ℤ) (m : Memory) → T (wellFormedUnder l m)
+      → stepUnder l r d f g w m ≡ leftBy l m (mapped (stepped (m .variables)) (directStep r d f g w (m .variables) (standingUnder l m)))
+  step-well r d f g w m h =
+      step-admitted l r d f g w m
+      ∙ ap (λ (o : Outcome (List Line)). leftBy l m (mapped (stepped (m .variables)) o)) (admitted-well q m (directStep r d f g w (m .variables) (standingUnder l m)) h)
 
-  pub file-unsized : sized m ≡ false → fileIn s m ≡ leftOf (lent (m .terms) (m .table)) (refusedAt 0 1)
-  unfolding fileIn
-  file-unsized h = rw h
+  pub check-well : (s : List ℕ) (m : Memory) → T (wellFormedUnder l m)
+      → (let x = checkDerivation s (m .variables) (standingUnder l m) in checkUnder l s m ≡ leftOf (imageUnder l (x .variables) (x .lines)) (x .told))
+  check-well s m h = check-admitted l s m ∙ ap (leftBy l m) (admitted-well q m (accepted (checkDerivation s (m .variables) (standingUnder l m))) h)
+
+  pub write-well : (i : ℕ) (m : Memory) (area : List ℕ) → T (wellFormedUnder l m)
+      → writeUnder l i m area ≡ writtenBy area (unless (leb i (m .lines)) 17 (fitting area (textOf i (m .variables) (standingUnder l m))))
+  unfolding writeUnder
+  write-well i m area h = ap (writtenBy area) (admitted-well q m (unless (leb i (m .lines)) 17 (fitting area (textOf i (m .variables) (standingUnder l m)))) h)

@@ -9,8 +9,9 @@ use lib.Signed.{_≤ℤ_}
 use lib.ListN.{take}
 use Rattle.refusal.specs.Outcome.{Outcome, accepted, refused, mapped}
 use Rattle.configuration.specs.Configuration.{Line, cost, isConfiguration}
-use Rattle.memory.specs.Memory.{Memory, standingOf, imageOf, wellFormed}
-use Rattle.memory.specs.MemoryLaws.{there-and-back, image-well, well-configuration}
+use Rattle.memory.specs.Memory.{Memory, backToBack, standingOf, imageOf, wellFormed}
+use Rattle.memory.specs.LayoutLaws.{image-well, well-configuration}
+use Rattle.memory.specs.MemoryLaws.{back-to-back}
 use Rattle.calculus.specs.Calculus.{directStep}
 use Rattle.calculus.specs.CalculusLaws.{direct-keeps, direct-cost}
 use Rattle.calculus.specs.declared.Rule.{Rule}
@@ -63,27 +64,27 @@ module _ (start m : Memory) (k : Kept start m) where
   -- the image of a configuration of which no cost is another
   image-kept : (N : List Line) → T (isConfiguration n N) → ((α : ℕ) → cost N α ≡ costIn m α) → Kept start (imageOf n N)
   image-kept N h e = record {
-    well = image-well n N h;
+    well = image-well backToBack back-to-back n N h;
     variables = k .variables;
-    costs = λ α. ap (λ (M : List Line). cost M α) (there-and-back n N h) ∙ e α ∙ k .costs α;
+    costs = λ α. ap (λ (M : List Line). cost M α) (back-to-back .back n N h) ∙ e α ∙ k .costs α;
   }
 
   step-kept : (r : Rule) (d : Mode) (f g : List ℕ) (w : ℤ) → Kept start (stepIn r d f g w m .memory)
-  step-kept r d f g w = subst (λ (l : Left (Unit {0})). Kept start (l .memory)) (sym (step-well r d f g w m (k .well))) (go (directStep r d f g w n L) refl)
+  step-kept r d f g w = subst (λ (l : Left (Unit {0})). Kept start (l .memory)) (sym (step-well back-to-back r d f g w m (k .well))) (go (directStep r d f g w n L) refl)
     where
-      go : (o : Outcome (List Line)) → directStep r d f g w n L ≡ o → Kept start (leftBy m (mapped (stepped n) o) .memory)
-      go (accepted N) e = image-kept N (direct-keeps r d f g w n L N e (well-configuration m (k .well))) (direct-cost r d f g w n L N e)
+      go : (o : Outcome (List Line)) → directStep r d f g w n L ≡ o → Kept start (leftBy backToBack m (mapped (stepped n) o) .memory)
+      go (accepted N) e = image-kept N (direct-keeps r d f g w n L N e (well-configuration backToBack m (k .well))) (direct-cost r d f g w n L N e)
       go (refused i) e = k
 
   check-kept : (s : List ℕ) → Kept start (checkIn s m .memory)
   check-kept s =
-      subst (λ (x : Memory). Kept start x) (sym (ap (λ (l : Left Confirmation). l .memory) (check-well s m (k .well)) ∙ ap (λ (i : ℕ). imageOf i (checkDerivation s n L .lines)) (check-variables s n L)))
-      (image-kept (checkDerivation s n L .lines) (check-configuration s n L (well-configuration m (k .well))) (check-cost s n L))
+      subst (λ (x : Memory). Kept start x) (sym (ap (λ (l : Left Confirmation). l .memory) (check-well back-to-back s m (k .well)) ∙ ap (λ (i : ℕ). imageOf i (checkDerivation s n L .lines)) (check-variables s n L)))
+      (image-kept (checkDerivation s n L .lines) (check-configuration s n L (well-configuration backToBack m (k .well))) (check-cost s n L))
 
   check-bound : (s : List ℕ) (w : ℤ) (D : ℕ) → checkIn s m .told ≡ confirmed w D → (α : ℕ) → w ≤ℤ costIn start α
   check-bound s w D e α =
       subst (λ (z : ℤ). w ≤ℤ z) (k .costs α)
-      (confirmed-bound s n L w D (sym (ap (λ (l : Left Confirmation). l .told) (check-well s m (k .well))) ∙ e) (well-configuration m (k .well)) α)
+      (confirmed-bound s n L w D (sym (ap (λ (l : Left Confirmation). l .told) (check-well back-to-back s m (k .well))) ∙ e) (well-configuration backToBack m (k .well)) α)
 
   safe : (c : Call) → Safe start m c
   safe (stepping r d f g w) = step-kept r d f g w

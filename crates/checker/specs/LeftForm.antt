@@ -4,8 +4,9 @@ use Prim.Native.Nat.{ℕ}
 use lib.Dec.{T}
 use lib.IntN.{ℤ}
 use Rattle.run.specs.BooleanLaws.{is-true}
-use Rattle.memory.specs.Memory.{Memory, sized, wellFormed}
-use Rattle.memory.specs.MemoryLaws.{image-well}
+use Rattle.memory.specs.Memory.{Memory, backToBack, sized, wellFormed}
+use Rattle.memory.specs.LayoutLaws.{image-well}
+use Rattle.memory.specs.MemoryLaws.{back-to-back}
 use Rattle.calculus.specs.declared.Rule.{Rule}
 use Rattle.calculus.specs.declared.Mode.{Mode}
 use Rattle.problem.specs.Problem.{fileProblem}
@@ -15,7 +16,7 @@ use Rattle.checker.specs.CheckerLaws.{file-sized}
 use Rattle.checker.specs.CostRule.{stepping, checking, cost-rule}
 
 pub filed-wellFormed : (s : List ℕ) (m : Memory) → T (sized m) → T (wellFormed (fileIn s m .memory))
-filed-wellFormed s m h = rw (file-sized s m (is-true (sized m) h)) (image-well (fileProblem s .variables) (fileProblem s .lines) (filed-configuration s))
+filed-wellFormed s m h = rw (file-sized backToBack s m (is-true (sized m) h)) (image-well backToBack back-to-back (fileProblem s .variables) (fileProblem s .lines) (filed-configuration s))
 
 pub check-wellFormed : (s : List ℕ) (m : Memory) → T (wellFormed m) → T (wellFormed (checkIn s m .memory))
 check-wellFormed s m h = cost-rule m h (checking s ∷ []) .0 .0 .well

@@ -10,8 +10,8 @@ use lib.ListN.{length}
 use Rattle.refusal.specs.Outcome.{refusedAt}
 use Rattle.calculus.specs.declared.Rule.{Rule}
 use Rattle.calculus.specs.declared.Mode.{Mode}
-use Rattle.memory.specs.Memory.{Memory, sized}
-use Rattle.checker.specs.Checker.{leftOf, stepIn, checkIn, lent, fileIn, writeIn}
+use Rattle.memory.specs.Memory.{Memory, backToBack, sized}
+use Rattle.checker.specs.Checker.{leftOf, lent, stepUnder, checkUnder, writeUnder, stepIn, checkIn, fileIn, writeIn}
 use Rattle.checker.specs.CheckerLaws.{file-unsized}
 
 module _ (m : Memory) (other : length (m .table) ≡ 128 → ⊥) where
@@ -24,16 +24,16 @@ module _ (m : Memory) (other : length (m .table) ≡ 128 → ⊥) where
       go false b h = refl
 
   pub step-other : (r : Rule) (d : Mode) (f g : List ℕ) (w : ℤ) → stepIn r d f g w m ≡ leftOf m (refusedAt 0 1)
-  unfolding stepIn
+  unfolding stepUnder
   step-other r d f g w = rw other-sized
 
   pub check-other : (s : List ℕ) → checkIn s m ≡ leftOf m (refusedAt 0 1)
-  unfolding checkIn
+  unfolding checkUnder
   check-other s = rw other-sized
 
   pub file-other : (s : List ℕ) → fileIn s m ≡ leftOf (lent (m .terms) (m .table)) (refusedAt 0 1)
-  file-other s = file-unsized s m other-sized
+  file-other s = file-unsized backToBack s m other-sized
 
   pub write-other : (number : ℕ) (area : List ℕ) → writeIn number m area ≡ record { area = area; told = refusedAt 0 1 }
-  unfolding writeIn
+  unfolding writeUnder
   write-other number area = rw other-sized

@@ -8,7 +8,7 @@ use Prim.Native.Nat.{ℕ}
 use Rattle.polynomial.specs.Polynomial.{ZERO}
 use Rattle.configuration.specs.Configuration.{total}
 use Rattle.configuration.specs.Made.{Made}
-use Rattle.memory.specs.Memory.{Memory, imageOf, sized}
+use Rattle.memory.specs.Memory.{Memory, backToBack, imageOf, sized}
 use Rattle.problem.specs.Problem.{filed, fileProblem}
 use Rattle.problem.specs.Entries.{entries, agrees, Permuted}
 use Rattle.problem.specs.ProblemLaws.{same-problem, permuted}
@@ -36,8 +36,8 @@ accepted-filing : (s : List ℕ) (m : Memory) → fileIn s m .told ≡ filed →
 accepted-filing s m e = go (sized m) refl
   where
     go : (b : Bool) → sized m ≡ b → fileIn s m ≡ leftFrom (fileProblem s)
-    go true h = file-sized s m h
-    go false h = absurd (not-refusal (sym e ∙ ap (λ (x : Left (Unit {0})). x .told) (file-unsized s m h)))
+    go true h = file-sized backToBack s m h
+    go false h = absurd (not-refusal (sym e ∙ ap (λ (x : Left (Unit {0})). x .told) (file-unsized backToBack s m h)))
 
 -- if every polynomial function other than 0 has the same total weight among the entries of both
 pub one-listing : (s t : List ℕ) (m l : Memory) → fileIn s m .told ≡ filed → fileIn t l .told ≡ filed

@@ -11,7 +11,8 @@ use Rattle.refusal.specs.Outcome.{Outcome, accepted, Told, refusedAt}
 use Rattle.configuration.specs.Configuration.{Line}
 use Rattle.configuration.specs.Made.{Made}
 use Rattle.walk.specs.Walk.{Reader, readAll, Refusal, acceptedBytes}
-use Rattle.memory.specs.Memory.{Memory, standingOf, imageOf, sized, wellFormed}
+use Rattle.memory.specs.Memory.{Memory, backToBack, standingOf, imageOf, sized, wellFormed}
+use Rattle.memory.specs.MemoryLaws.{back-to-back}
 use Rattle.problem.specs.Problem.{filing, empty, fileProblem}
 use Rattle.problem.specs.RefusedLaws.{refused-number, refused-first, refused-prefix}
 use Rattle.derivation.specs.Derivation.{Confirmation, checking, fresh, checkDerivation}
@@ -44,18 +45,18 @@ filing-refused s m K n e = go (sized m) refl
     go : (b : Bool) → sized m ≡ b → FilingRefused s m K n
     go true h =
         let t : List ℕ = acceptedBytes filing s empty in
-        let x : fileProblem s .told ≡ refusedAt K n = sym (ap toldIn (file-sized s m h)) ∙ e in
+        let x : fileProblem s .told ≡ refusedAt K n = sym (ap toldIn (file-sized backToBack s m h)) ∙ e in
         let k : K ≡ suc ((readAll filing s empty) .reached .records) = refused-number s K n x in
         let p : _ = refused-prefix s K n x in
         record {
           unread = λ z. let i : ⊥ = omega (arith, k) in absurd i;
           read = λ z. record { accepted = k; first = refused-first s K n x };
-          stays = λ z. ap memoryIn (file-sized s m h) ∙ ap₂ imageOf (p .0) (p .1) ∙ sym (ap memoryIn (file-sized t m h));
+          stays = λ z. ap memoryIn (file-sized backToBack s m h) ∙ ap₂ imageOf (p .0) (p .1) ∙ sym (ap memoryIn (file-sized backToBack t m h));
         }
     go false h =
-        let u : (0 ≡ K) × (1 ≡ n) = same-refusal (sym (ap toldIn (file-unsized s m h)) ∙ e) in
+        let u : (0 ≡ K) × (1 ≡ n) = same-refusal (sym (ap toldIn (file-unsized backToBack s m h)) ∙ e) in
         record {
-          unread = λ z. file-unsized s m h ∙ ap (λ (i : ℕ). leftOf (lent (m .terms) (m .table)) (refusedAt 0 i)) (u .1);
+          unread = λ z. file-unsized backToBack s m h ∙ ap (λ (i : ℕ). leftOf (lent (m .terms) (m .table)) (refusedAt 0 i)) (u .1);
           read = λ z. let i : ⊥ = omega (arith, u .0) in absurd i;
           stays = λ z. let i : ⊥ = omega (arith, u .0) in absurd i;
         }
@@ -83,13 +84,13 @@ module _ (s : List ℕ) (m : Memory) (K n : ℕ) (e : checkIn s m .told ≡ refu
       let v : ℕ = m .variables in
       let L : List Line = standingOf m in
       let t : List ℕ = acceptedBytes (checking v) s (fresh L) in
-      let x : checkDerivation s v L .told ≡ refusedAt K n = sym (ap toldIn (check-well s m h)) ∙ e in
+      let x : checkDerivation s v L .told ≡ refusedAt K n = sym (ap toldIn (check-well back-to-back s m h)) ∙ e in
       let k : K ≡ suc ((readAll (checking v) s (fresh L)) .reached .records) = check-refused-number s v L K n x .0 in
       record {
         unread = λ z. let i : ⊥ = omega (arith, k) in absurd i;
         read = λ z. record { accepted = k; first = check-refused-first s v L K n x };
-        stays = λ z. ap memoryIn (check-well s m h) ∙ ap₂ imageOf (check-variables s v L ∙ sym (check-variables t v L)) (check-refused-prefix s v L)
-            ∙ sym (ap memoryIn (check-well t m h));
+        stays = λ z. ap memoryIn (check-well back-to-back s m h) ∙ ap₂ imageOf (check-variables s v L ∙ sym (check-variables t v L)) (check-refused-prefix s v L)
+            ∙ sym (ap memoryIn (check-well back-to-back t m h));
       }
 
   pub check-refused : CheckRefused s m K n
@@ -99,6 +100,6 @@ module _ (s : List ℕ) (m : Memory) (K n : ℕ) (e : checkIn s m .told ≡ refu
       checked = accepted (checkDerivation s (m .variables) (standingOf m))
 
       go : (a : Bool) → sized m ≡ a → (b : Bool) → wellFormed m ≡ b → CheckRefused s m K n
-      go false h b i = unfit 1 (check-admitted s m ∙ ap (leftBy m) (not-sized m checked h))
-      go true h false i = unfit 2 (check-admitted s m ∙ ap (leftBy m) (not-formed m checked h i))
+      go false h b i = unfit 1 (check-admitted backToBack s m ∙ ap (leftBy backToBack m) (not-sized backToBack m checked h))
+      go true h false i = unfit 2 (check-admitted backToBack s m ∙ ap (leftBy backToBack m) (not-formed backToBack m checked h i))
       go true h true i = fit (of-true i)

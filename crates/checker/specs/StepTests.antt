@@ -9,7 +9,7 @@ use Rattle.refusal.specs.Tests.{AllPassed, FirstFailed, Decided}
 use Rattle.refusal.specs.TestsLaws.{decided}
 use Rattle.configuration.specs.Configuration.{Line, addAll}
 use Rattle.configuration.specs.Limits.{within}
-use Rattle.memory.specs.Memory.{Memory, standingOf, imageOf}
+use Rattle.memory.specs.Memory.{Memory, backToBack, standingOf, imageOf}
 use Rattle.calculus.specs.Calculus.{changes, step, directStep}
 use Rattle.calculus.specs.Tests.{directTests}
 use Rattle.calculus.specs.declared.Rule.{Rule}
@@ -19,7 +19,7 @@ use Rattle.checker.specs.CheckerLaws.{not-refusal, same-refusal, step-ad
 
 module _ (r : Rule) (d : Mode) (f g : List ℕ) (w : ℤ) (m : Memory) where
   abbrev tests : List Test
-  tests = memoryTests m ++ directTests r d f g w (m .variables) (standingOf m)
+  tests = memoryTests backToBack m ++ directTests r d f g w (m .variables) (standingOf m)
 
   -- the lines with the changes of the rule, and the memory that has them
   abbrev foldedLines : List Line
@@ -35,10 +35,10 @@ module _ (r : Rule) (d : Mode) (f g : List ℕ) (w : ℤ) (m : Memory) where
     pub if-refused : (n : ℕ) → stepIn r d f g w m .told ≡ refusedAt 0 n → FirstFailed n tests
 
   abbrev judged : Outcome (List Line)
-  judged = admitted m (directStep r d f g w (m .variables) (standingOf m))
+  judged = admitted backToBack m (directStep r d f g w (m .variables) (standingOf m))
 
   abbrev onto : Outcome (List Line) → Left (Unit {0})
-  onto o = leftBy m (mapped (stepped (m .variables)) o)
+  onto o = leftBy backToBack m (mapped (stepped (m .variables)) o)
 
   judged-decided : Decided tests foldedLines judged
   unfolding directStep step within
@@ -53,7 +53,7 @@ module _ (r : Rule) (d : Mode) (f g : List ℕ) (w : ℤ) (m : Memory) where
   }
     where
       is : stepIn r d f g w m ≡ onto judged
-      is = step-admitted r d f g w m
+      is = step-admitted backToBack r d f g w m
 
       told : onto judged .told ≡ stepIn r d f g w m .told
       told = sym (ap (λ (l : Left (Unit {0})). l .told) is)

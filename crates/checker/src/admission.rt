@@ -6,12 +6,12 @@ use refusal::Objection;
 use refusal::Reason;
 ghost use mathlib.Core.Path.{_≡_};
 ghost use Rattle.refusal.specs.Outcome.{accepted, objected};
-ghost use Rattle.memory.specs.Memory.{memoryBefore};
+ghost use Rattle.memory.specs.Memory.{backToBack, memoryBefore};
 ghost use Rattle.checker.specs.Checker.{admitted};
 
 // What is found against a lent memory: the length of its term area, then its form.
 pub fn object(head: Head, terms: &[u32], entries: [Entry; 128]) -> Objection
-    ensures { λ r. ⌜ objected r (accepted (tt {0})) ≡ admitted (memoryBefore head terms entries) (accepted (tt {0})) ⌝ }
+    ensures { λ r. ⌜ objected r (accepted (tt {0})) ≡ admitted backToBack (memoryBefore head terms entries) (accepted (tt {0})) ⌝ }
 {
     if terms.len() != 8192 {
         return Objection::Found(Reason::WrongLength);

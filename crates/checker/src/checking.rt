@@ -5,6 +5,7 @@ use derivation::CheckAnswer;
 use memory::Entry;
 use memory::Head;
 use memory::close::close;
+use memory::entries::used_by;
 use memory::open::open;
 use refusal::Objection;
 use refusal::Reason;
@@ -13,7 +14,7 @@ ghost use mathlib.Core.Path.{_≡_};
 ghost use lib.Dec.{T};
 ghost use Rattle.refusal.specs.Outcome.{accepted};
 ghost use Rattle.derivation.specs.Derivation.{toldOfCheck, checkDerivation};
-ghost use Rattle.memory.specs.Memory.{memoryAt, memoryBefore, memoryAfter, standingOf, wellFormed};
+ghost use Rattle.memory.specs.Memory.{backToBack, memoryAt, memoryBefore, memoryAfter, standingOf, wellFormed};
 ghost use Rattle.checker.specs.Checker.{leftOf, leftBy, checkIn};
 
 // What a check leaves: the records of the lines, and the head with the answer.
@@ -44,7 +45,7 @@ fn checked(bytes: &[u8], head: Head, terms: &mut [u32], entries: [Entry; 128]) -
     requires { ⌜ T (wellFormed (memoryAt head terms entries)) ⌝ }
     ensures { λ r. let m = memoryBefore head terms entries in
         ⌜ leftOf (memoryAfter (r .checked .head) terms (r .entries)) (toldOfCheck (r .checked .answer))
-        ≡ leftBy m (accepted (checkDerivation (now (bytes .entry)) (m .variables) (standingOf m))) ⌝ }
+        ≡ leftBy backToBack m (accepted (checkDerivation (now (bytes .entry)) (m .variables) (standingOf m))) ⌝ }
 {
     let mut order = fresh_order();
     let mut rows = [0u32; 8192];
@@ -69,7 +70,8 @@ fn checked(bytes: &[u8], head: Head, terms: &mut [u32], entries: [Entry; 128]) -
         &mut weights,
         &mut counts,
     );
-    let entries = close(done.lines, &order, &rows, &weights, &counts, entries, terms);
+    let used = used_by(entries);
+    let entries = close(done.lines, &order, &rows, &weights, &counts, used, terms);
     let lines = done.lines as u32;
     let head = Head { variables, lines };
     let answer = done.answer;

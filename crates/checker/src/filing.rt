@@ -2,9 +2,7 @@
 use crate::Filed;
 use memory::Entry;
 use memory::Head;
-use memory::close::clear;
 use memory::close::close;
-use memory::entries::no_entries;
 use problem::FilingAnswer;
 use refusal::Reason;
 use table::order::fresh_order;
@@ -33,7 +31,8 @@ pub fn unfit() -> Filed
     }
 }
 
-// The filing, from no lines. It is for `on_entries`, which has tested the length.
+// The filing, from no lines. Nothing is known of the area, so that every place behind the lines is cleared. It is for
+// `on_entries`, which has tested the length.
 fn filed(bytes: &[u8], terms: &mut [u32]) -> Done
     requires { ⌜ length (now terms) ≡ 8192 ⌝ }
     ensures { λ r. let x = fileProblem (now (bytes .entry)) in
@@ -44,9 +43,7 @@ fn filed(bytes: &[u8], terms: &mut [u32]) -> Done
     let mut weights = [0i64; 128];
     let mut counts = [0u32; 128];
     let done = problem::file_problem(bytes, &mut order, &mut rows, &mut weights, &mut counts);
-    clear(terms);
-    let none = no_entries();
-    let entries = close(done.lines, &order, &rows, &weights, &counts, none, terms);
+    let entries = close(done.lines, &order, &rows, &weights, &counts, 8192, terms);
     let variables = done.variables;
     let lines = done.lines as u32;
     let head = Head { variables, lines };

@@ -7,6 +7,7 @@ use calculus::Rule;
 use memory::Entry;
 use memory::Head;
 use memory::close::close;
+use memory::entries::used_by;
 use memory::open::open;
 use refusal::Objection;
 use refusal::Reason;
@@ -17,7 +18,7 @@ ghost use mathlib.Core.Path.{_≡_};
 ghost use lib.Dec.{T};
 ghost use Rattle.refusal.specs.Outcome.{mapped};
 ghost use Rattle.calculus.specs.Calculus.{step as stepOf};
-ghost use Rattle.memory.specs.Memory.{memoryAt, memoryBefore, memoryAfter, standingOf, wellFormed};
+ghost use Rattle.memory.specs.Memory.{backToBack, memoryAt, memoryBefore, memoryAfter, standingOf, wellFormed};
 ghost use Rattle.step.specs.Stepping.{Operand};
 ghost use Rattle.checker.specs.Checker.{leftOf, leftBy, stepped, stepIn, toldOfStep};
 
@@ -58,7 +59,7 @@ fn taken(
     requires { ⌜ T (wellFormed (memoryAt head terms entries)) × Operand (now f) × Operand (now g) ⌝ }
     ensures { λ r. let m = memoryBefore head terms entries in
         ⌜ leftOf (memoryAfter (r .stepped .head) terms (r .entries)) (toldOfStep (r .stepped .answer))
-        ≡ leftBy m (mapped (stepped (m .variables)) (stepOf rule mode (now (f .entry)) (now (g .entry)) amount (standingOf m))) ⌝ }
+        ≡ leftBy backToBack m (mapped (stepped (m .variables)) (stepOf rule mode (now (f .entry)) (now (g .entry)) amount (standingOf m))) ⌝ }
 {
     let mut order = fresh_order();
     let mut rows = [0u32; 8192];
@@ -90,7 +91,8 @@ fn taken(
         let stepped = refused(head, reason);
         return Done { entries, stepped };
     }
-    let entries = close(done.lines, &order, &rows, &weights, &counts, entries, terms);
+    let used = used_by(entries);
+    let entries = close(done.lines, &order, &rows, &weights, &counts, used, terms);
     let variables = head.variables;
     let lines = done.lines as u32;
     let head = Head { variables, lines };

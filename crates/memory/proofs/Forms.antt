@@ -1,17 +1,17 @@
--- The steps of the test 'well formed', over plain lists: a line, zeros, the rows of a term area, the entries behind the lines, the lines one by one, and the parts of the whole test.
+-- The steps of the test 'well formed', over plain lists: a line, zeros, the entries behind the lines, the lines one by one, and the parts of the whole test.
 use mathlib.Core.Path.{_≡_, refl, sym, ap, ap₂, _∙_}
 use mathlib.Core.Bool.{Bool, true, false, not, _&&_, true≢false}
 use mathlib.Core.List.{List, [], _∷_}
-use Prim.Native.Nat.{ℕ, zero, suc, _+_, _-_, _*_, _^_, _≤_, _<_}
+use Prim.Native.Nat.{ℕ, zero, suc, _+_, _^_, _≤_, _<_}
 use native.Mathlib.Nat.{le-of-suc-le-suc, not-suc-le-zero}
 use native.Mathlib.Numerals.{add-one}
 use native.Mathlib.Omega.{arith}
 use lib.Bits.{bitOr}
 use lib.Dec.{T, eqb, ltb}
 use lib.IntN.{ℤ, pos}
-use lib.ListN.{length, getD, take, drop, length-drop, drop-of-length-le}
-use lib.Seq.{slice, take-add, drop-at, drop-cons, drop-drop, length-take-le}
-use borrow.Author.Tests.{ne-eqb, le-ltb, lt-leb, le-leb}
+use lib.ListN.{length, getD, take, drop, drop-of-length-le}
+use lib.Seq.{drop-cons, drop-drop}
+use borrow.Author.Tests.{ne-eqb, le-ltb}
 use Rattle.run.specs.BooleanLaws.{is-false, left, right, both, bool-ext}
 use Rattle.polynomial.specs.Polynomial.{orderOf}
 use Rattle.configuration.specs.Weight.{inRange, isZero}
@@ -19,8 +19,8 @@ use Rattle.configuration.specs.Configuration.{Line, line, some, byOrder, isPoly
 use Rattle.configuration.proofs.Weights.{joined-below}
 use Rattle.memory.specs.declared.Entry.{Entry}
 use Rattle.memory.specs.Memory.{Memory, readLines, unused, standingOf, wellFormed}
-use Rattle.memory.specs.MemoryLaws.{length-read, row-short, first-cleared, rest-cleared, Formed, well-formed, formed-well}
-use Rattle.memory.specs.Layout.{zeros, rowCleared, cleared, isUnused, allUnused}
+use Rattle.memory.specs.MemoryLaws.{used-take, used-next, length-read, Formed, well-formed, formed-well}
+use Rattle.memory.specs.Places.{usedBy, zeros, isUnused, allUnused}
 
 -- ---- tests
 pub and-false : (a b : Bool) → b ≡ false → (a && b) ≡ false
@@ -75,45 +75,6 @@ below-one (suc a) = le-ltb (suc a) (2 ^ 0) (omega arith) ∙ sym (ne-eqb (suc a)
 pub joined-zero : (a b : ℕ) → eqb (bitOr a b) 0 ≡ (eqb a 0 && eqb b 0)
 joined-zero a b = sym (below-one (bitOr a b)) ∙ joined-below 0 a b ∙ ap₂ _&&_ (below-one a) (below-one b)
 
--- ---- a row of a term area
-part : (a n : ℕ) (l : List ℕ) → a + n ≤ length l → drop a (take (a + n) l) ≡ take n (drop a l)
-part a n l h = ap (drop a) (take-add a n l) ∙ drop-at (take a l) (take n (drop a l)) a (length-take-le a l (omega arith))
-
-module _ (i : ℕ) (ts : List ℕ) (e : Entry) where
-  pub row-long : 64 < e .count → false ≡ rowCleared (drop (64 * i) ts) e
-  row-long h = rw (lt-leb (e .count) 64 h)
-
-  -- the places behind the terms, as code takes them
-  pub row-places : e .count ≤ 64 → 64 * i + 64 ≤ length ts
-      → zeros (take (64 * i + 64 - (64 * i + e .count)) (drop (64 * i + e .count) ts)) ≡ rowCleared (drop (64 * i) ts) e
-  row-places h k =
-      let n : ℕ = e .count in
-      let m : ℕ = 64 * i + 64 - (64 * i + n) in
-      let s : n + m ≡ 64 = omega arith in
-      let l : n + m ≤ length (drop (64 * i) ts) = omega (arith, length-drop (64 * i) ts) in
-      let z : take m (drop (64 * i + n) ts) ≡ slice n 64 (drop (64 * i) ts) =
-      ap (take m) (sym (drop-drop n (64 * i) ts)) ∙ sym (part n m (drop (64 * i) ts) l) ∙ ap (λ (x : ℕ). slice n x (drop (64 * i) ts)) s in
-      rw (z, le-leb n 64 h)
-
--- ---- the rows of a term area
-module _ (i : ℕ) (ts : List ℕ) (t : List Entry) (whole : Bool) (inv : cleared (drop (64 * i) ts) (drop i t) ≡ whole) where
-  module _ (h : i < length t) where
-    next-row : cleared (drop (64 * i) ts) (drop i t) ≡ (rowCleared (drop (64 * i) ts) (getD t i unused) && cleared (drop (64 * (i + 1)) ts) (drop (i + 1) t))
-    unfolding cleared
-    next-row =
-        let e : 64 * i + 64 ≡ 64 * (i + 1) = omega arith in
-        ap (cleared (drop (64 * i) ts)) (drop-cons t i unused h) ∙ rw (drop-drop 64 (64 * i) ts, e, add-one i)
-
-    pub row-used : rowCleared (drop (64 * i) ts) (getD t i unused) ≡ false → false ≡ whole
-    row-used e = sym (rw e at next-row) ∙ inv
-
-    pub row-unused : rowCleared (drop (64 * i) ts) (getD t i unused) ≡ true → cleared (drop (64 * (i + 1)) ts) (drop (i + 1) t) ≡ whole
-    row-unused e = sym (rw e at next-row) ∙ inv
-
-  pub rows-end : length t ≤ i → true ≡ whole
-  unfolding cleared
-  rows-end h = sym (ap (cleared (drop (64 * i) ts)) (drop-of-length-le t h)) ∙ inv
-
 -- ---- the entries behind the lines
 module _ (i : ℕ) (t : List Entry) (whole : Bool) (inv : allUnused (drop i t) ≡ whole) where
   module _ (h : i < length t) where
@@ -132,23 +93,23 @@ module _ (i : ℕ) (t : List Entry) (whole : Bool) (inv : allUnused (drop i t) �
   entries-end h = sym (ap allUnused (drop-of-length-le t h)) ∙ inv
 
 -- ---- the lines that are read, one by one
--- every line has at most 64 terms
-pub cleared-short : (i : ℕ) (ts : List ℕ) (t : List Entry) → T (cleared ts t) → i < length t → getD t i unused .count ≤ 64
-cleared-short i ts [] h l = absurd (not-suc-le-zero l)
-cleared-short zero ts (e ∷ t) h l = row-short ts e (first-cleared ts e t h)
-cleared-short (suc i) ts (e ∷ t) h l = cleared-short i (drop 64 ts) t (rest-cleared ts e t h) (le-of-suc-le-suc l)
+abbrev pub termsRead : List ℕ → List Entry → ℕ → List ℕ
+termsRead ts t i = take (getD t i unused .count) (drop (usedBy (take i t)) ts)
 
 abbrev pub lineRead : List ℕ → List Entry → ℕ → Line
-lineRead ts t i = line (take (getD t i unused .count) (drop (64 * i) ts)) (getD t i unused .weight)
+lineRead ts t i = line (termsRead ts t i) (getD t i unused .weight)
 
 pub line-read : (k i : ℕ) (ts : List ℕ) (t : List Entry) (d : Line) → i < k → k ≤ length t → getD (readLines k ts t) i d ≡ lineRead ts t i
-unfolding readLines
+unfolding readLines usedBy
 line-read zero i ts t d h l = absurd (not-suc-le-zero h)
 line-read (suc k) i ts [] d h l = absurd (not-suc-le-zero l)
 line-read (suc k) zero ts (e ∷ t) d h l = refl
 line-read (suc k) (suc i) ts (e ∷ t) d h l =
-    let s : 64 + 64 * i ≡ 64 * suc i = omega arith in
-    line-read k i (drop 64 ts) t d (le-of-suc-le-suc h) (le-of-suc-le-suc l) ∙ rw (drop-drop (64 * i) 64 ts, s)
+    line-read k i (drop (e .count) ts) t d (le-of-suc-le-suc h) (le-of-suc-le-suc l) ∙ rw (drop-drop (usedBy (take i t)) (e .count) ts)
+
+-- its terms are within the area, if all are
+pub read-within : (i n : ℕ) (t : List Entry) → i < length t → usedBy t ≤ n → usedBy (take i t) + getD t i unused .count ≤ n
+read-within i n t h u = omega (arith, used-next i t h, used-take (i + 1) t)
 
 abbrev pub bothFit : ℕ → List Line → Bool
 bothFit n L = linesFit n L && weightsFit L
@@ -188,7 +149,7 @@ module _ (n k i : ℕ) (ts : List ℕ) (t : List Entry) (b : k ≤ length t) (in
 
   module _ (h : i + 1 < k) (e : Here ≡ true) where
     abbrev firstBefore : Bool
-    firstBefore = byOrder (orderOf (take (getD t i unused .count) (drop (64 * i) ts)) (take (getD t (i + 1) unused .count) (drop (64 * (i + 1)) ts))) true false false
+    firstBefore = byOrder (orderOf (termsRead ts t i) (termsRead ts t (i + 1))) true false false
 
     pair : bothFit n (drop i L) ≡ (firstBefore && bothFit n (drop (i + 1) L))
     pair =
@@ -221,19 +182,20 @@ module _ (n k i : ℕ) (ts : List ℕ) (t : List Entry) (b : k ≤ length t) (in
 pub not-well : (m : Memory) → (Formed m → ⊥) → false ≡ wellFormed m
 not-well m h = sym (is-false (wellFormed m) (λ t. h (well-formed m t)))
 
-pub the-lines : (m : Memory) → length (m .terms) ≡ 8192 → length (m .table) ≡ 128 → m .lines ≤ 128 → m .variables ≤ 32 → T (cleared (m .terms) (m .table))
-    → T (allUnused (drop (m .lines) (m .table))) → (linesFit (m .variables) (standingOf m) && weightsFit (standingOf m)) ≡ wellFormed m
-the-lines m lt le r v c u =
+pub the-lines : (m : Memory) → length (m .terms) ≡ 8192 → length (m .table) ≡ 128 → m .lines ≤ 128 → m .variables ≤ 32 → T (allUnused (drop (m .lines) (m .table)))
+    → usedBy (m .table) ≤ 8192 → T (zeros (drop (usedBy (m .table)) (m .terms))) → (linesFit (m .variables) (standingOf m) && weightsFit (standingOf m)) ≡ wellFormed m
+the-lines m lt le r v b u z =
     let a : Bool = linesFit (m .variables) (standingOf m) in
-    let b : Bool = weightsFit (standingOf m) in
-    bool-ext (a && b) (wellFormed m)
+    let w : Bool = weightsFit (standingOf m) in
+    bool-ext (a && w) (wellFormed m)
     (λ h. formed-well m (record {
       terms-length = lt;
       table-length = le;
       room = r;
       variables = v;
-      rows = c;
-      behind = u;
-      fit = left a b h;
-      weights = right a b h;
-    })) (λ h. let q = well-formed m h in both a b (q .fit) (q .weights))
+      behind = b;
+      used = u;
+      rest = z;
+      fit = left a w h;
+      weights = right a w h;
+    })) (λ h. let q = well-formed m h in both a w (q .fit) (q .weights))

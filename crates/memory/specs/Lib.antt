@@ -1,3 +1,4 @@
 pub mod Memory
-pub mod Layout
+pub mod Places
+pub mod LayoutLaws
 pub mod MemoryLaws

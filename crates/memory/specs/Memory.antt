@@ -1,12 +1,13 @@
 -- What callers lend, and how a configuration lies in it. Document 01: "a head (n, number of lines), a term area of 8,192 32-bit numbers and a line table. The line table is a
--- lent run of 128 records, each a weight and a count of terms. Line i, from 0, has its terms at places 64 i onward. Lines stand in the order above; all unused places are
--- zero."
+-- lent run of 128 records, each a weight and a count of terms. .. Lines stand in the order above; all unused places are zero." Document 02, Ask 10: "Let the terms of all lines
+-- follow one another in line order from place 0, all places after the last being zero."
+use mathlib.Core.Path.{_≡_}
 use mathlib.Core.Bool.{Bool, true, false, _&&_}
 use mathlib.Core.List.{List, [], _∷_, _++_}
-use Prim.Native.Nat.{ℕ, zero, suc, _-_, _*_}
+use Prim.Native.Nat.{ℕ, zero, suc, _-_, _≤_}
 use denote.Ref.{RefT, now}
 use denote.Triple.Both.{Both}
-use lib.Dec.{eqb}
+use lib.Dec.{T, eqb}
 use lib.IntN.{ℤ, pos, negsuc}
 use lib.ListN.{length, take, drop, replicate}
 use Rattle.configuration.specs.Configuration.{Line, line, isConfiguration}
@@ -22,19 +23,24 @@ pub record Memory : Type 0 where
 abbrev pub memoryOf : Head → List ℕ → List Entry → Memory
 memoryOf h ts t = record { variables = h .variables; lines = h .lines; terms = ts; table = t }
 
--- ---- the configuration that a memory holds, document 01's standing
+-- ---- the layout of code: the terms of all lines, one after the other
+-- the first so many lines of a term area, whose entries count their terms
 unfoldable pub readLines : ℕ → List ℕ → List Entry → List Line
 readLines zero ts t = []
 readLines (suc k) ts [] = []
-readLines (suc k) ts (e ∷ t) = line (take (e .count) ts) (e .weight) ∷ readLines k (drop 64 ts) t
+readLines (suc k) ts (e ∷ t) = line (take (e .count) ts) (e .weight) ∷ readLines k (drop (e .count) ts) t
 
-abbrev pub standingOf : Memory → List Line
-standingOf m = readLines (m .lines) (m .terms) (m .table)
+unfoldable pub termsOf : List Line → List ℕ
+termsOf [] = []
+termsOf (line f w ∷ L) = f ++ termsOf L
 
--- ---- the memory of a configuration of n variables
-unfoldable pub termAreaOf : List Line → List ℕ
-termAreaOf [] = []
-termAreaOf (line f w ∷ L) = f ++ replicate (64 - length f) 0 ++ termAreaOf L
+-- A layout is how lines are read from a term area, and what they fill of one from place 0 on. Code has one; document 01's first one is in OldLayout.antt, for a theorem alone.
+pub record Layout : Type 0 where
+  pub read : ℕ → List ℕ → List Entry → List Line
+  pub laid : List Line → List ℕ
+
+abbrev pub backToBack : Layout
+backToBack = record { read = readLines; laid = termsOf }
 
 unfoldable pub entriesOf : List Line → List Entry
 entriesOf [] = []
@@ -42,14 +48,6 @@ entriesOf (line f w ∷ L) = record { weight = w; count = length f } ∷ entries
 
 abbrev pub unused : Entry
 unused = record { weight = pos 0; count = 0 }
-
-abbrev pub imageOf : ℕ → List Line → Memory
-imageOf n L = record {
-  variables = n;
-  lines = length L;
-  terms = termAreaOf L ++ replicate (64 * (128 - length L)) 0;
-  table = entriesOf L ++ replicate (128 - length L) unused;
-}
 
 -- ---- the tests 1 and 2
 abbrev pub sized : Memory → Bool
@@ -75,9 +73,39 @@ abbrev pub sameMemory : Memory → Memory → Bool
 sameMemory m k =
     eqb (m .variables) (k .variables) && (eqb (m .lines) (k .lines) && (alike eqb (m .terms) (k .terms) && alike sameEntry (m .table) (k .table)))
 
--- well formed: what the memory holds is a configuration, of which the memory is the image, and it has as many lines as its head says
+-- ---- in any layout
+module _ (l : Layout) where
+  -- the configuration that a memory holds, document 01's standing
+  abbrev pub standingUnder : Memory → List Line
+  standingUnder m = l .read (m .lines) (m .terms) (m .table)
+
+  -- the memory of a configuration of n variables
+  abbrev pub imageUnder : ℕ → List Line → Memory
+  imageUnder n L = record {
+    variables = n;
+    lines = length L;
+    terms = l .laid L ++ replicate (8192 - length (l .laid L)) 0;
+    table = entriesOf L ++ replicate (128 - length L) unused;
+  }
+
+  -- well formed: what the memory holds is a configuration, of which the memory is the image, and it has as many lines as its head says
+  abbrev pub wellFormedUnder : Memory → Bool
+  wellFormedUnder m = isConfiguration (m .variables) (standingUnder m) && sameMemory m (imageUnder (m .variables) (standingUnder m))
+
+  -- every configuration has room, and is read back as it was laid out: no line, no term and no order is lost
+  pub record Faithful : Type 0 where
+    pub room : (n : ℕ) (L : List Line) → T (isConfiguration n L) → length (l .laid L) ≤ 8192
+    pub back : (n : ℕ) (L : List Line) → T (isConfiguration n L) → standingUnder (imageUnder n L) ≡ L
+
+-- ---- in the layout of code
+abbrev pub standingOf : Memory → List Line
+standingOf m = standingUnder backToBack m
+
+abbrev pub imageOf : ℕ → List Line → Memory
+imageOf n L = imageUnder backToBack n L
+
 abbrev pub wellFormed : Memory → Bool
-wellFormed m = isConfiguration (m .variables) (standingOf m) && sameMemory m (imageOf (m .variables) (standingOf m))
+wellFormed m = wellFormedUnder backToBack m
 
 -- ---- a memory as a function is lent it, with the line table by value: `memoryAt` is for what it asks, `memoryBefore` and `memoryAfter` for what it promises
 abbrev pub memoryAt : Head → RefT (List ℕ) → List Entry → Memory

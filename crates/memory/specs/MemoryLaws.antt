@@ -1,77 +1,43 @@
--- A configuration and its memory: reading gives back what was laid out, a well-formed memory is the image of its own configuration, and the parts of the test 'well formed'
--- as code makes them.
+-- A configuration and its memory in the layout of code: reading gives back what was laid out, and the parts of the test 'well formed' as code makes them.
 use mathlib.Core.Path.{_≡_, refl, sym, ap, ap₂, subst, _∙_}
-use mathlib.Core.Bool.{Bool, _&&_}
 use mathlib.Core.List.{List, [], _∷_, _++_, append-assoc}
-use Prim.Native.Nat.{ℕ, zero, suc, _+_, _-_, _*_, _≤_}
-use native.Mathlib.Nat.{le-of-suc-le-suc, not-suc-le-zero, sub-zero, suc-sub-suc}
+use Prim.Native.Nat.{ℕ, zero, suc, _+_, _-_, _*_, _≤_, _<_}
+use native.Mathlib.Nat.{le-of-suc-le-suc, not-suc-le-zero}
+use native.Mathlib.Numerals.{add-one}
 use native.Mathlib.Omega.{arith}
-use lib.Dec.{T, eqb, eqb→eq, eqb-refl, leb, leb→le, le→leb}
+use lib.Dec.{T, eqb, eqb→eq}
 use lib.IntN.{ℤ, pos, negsuc}
-use lib.ListN.{length, take, drop, replicate, length-append, length-drop, length-replicate, take-append-drop, replicate-append-replicate}
-use lib.Seq.{slice, take-at, drop-at, take-take, take-append-seam, drop-append-seam, length-take-le, length-slice}
-use Rattle.run.specs.BooleanLaws.{left, right, both, eq→eqb}
+use lib.ListN.{length, getD, take, drop, replicate, length-append, length-drop, length-replicate, take-append-drop, drop-of-length-le}
+use lib.Seq.{take-add, take-suc, drop-at, take-append-seam, drop-append-seam, length-take-le}
+use Rattle.run.specs.BooleanLaws.{left, right, both}
 use Rattle.configuration.specs.Weight.{isZero}
 use Rattle.configuration.specs.Configuration.{Line, line, linesFit, weightsFit, isConfiguration}
 use Rattle.configuration.specs.LineLaws.{Short, IsConfiguration, configuration-parts, parts-configuration, configuration-short}
 use Rattle.memory.specs.declared.Entry.{Entry}
-use Rattle.memory.specs.Memory.{Memory, readLines, standingOf, termAreaOf, entriesOf, unused, imageOf, sized, alike, sameWeight, sameEntry, sameMemory, wellFormed}
-use Rattle.memory.specs.Layout.{zeros, rowCleared, cleared, isUnused, allUnused}
+use Rattle.memory.specs.Memory.{Memory, readLines, termsOf, backToBack, entriesOf, unused, sameMemory, Faithful, standingOf, imageOf, wellFormed}
+use Rattle.memory.specs.LayoutLaws.{memory-self, length-entries, well-image, well-parts}
+use Rattle.memory.specs.Places.{usedBy, zeros, isUnused, allUnused}
 
--- ---- equality by a test
-module _ {A : Type 0} (same : A → A → Bool) where
-  alike-is : ((x y : A) → T (same x y) → x ≡ y) → (l m : List A) → T (alike same l m) → l ≡ m
-  unfolding alike
-  alike-is h [] [] t = refl
-  alike-is h [] (y ∷ m) t = absurd t
-  alike-is h (x ∷ l) [] t = absurd t
-  alike-is h (x ∷ l) (y ∷ m) t =
-      ap₂ (λ (z : A) (n : List A). z ∷ n) (h x y (left (same x y) (alike same l m) t)) (alike-is h l m (right (same x y) (alike same l m) t))
+-- ---- lines laid out and read back, whatever stands behind them
+read-laid : (L : List Line) (x : List ℕ) (y : List Entry) → readLines (length L) (termsOf L ++ x) (entriesOf L ++ y) ≡ L
+unfolding readLines termsOf entriesOf
+read-laid [] x y = refl
+read-laid (line f w ∷ L) x y =
+    rw (append-assoc f (termsOf L) x, take-append-seam f (termsOf L ++ x), drop-append-seam f (termsOf L ++ x), read-laid L x y)
 
-  alike-self : ((x : A) → T (same x x)) → (l : List A) → T (alike same l l)
-  unfolding alike
-  alike-self h [] = tt
-  alike-self h (x ∷ l) = both (same x x) (alike same l l) (h x) (alike-self h l)
+pub length-terms : (L : List Line) → Short L → length (termsOf L) ≤ 64 * length L
+unfolding termsOf
+length-terms [] s = omega arith
+length-terms (line f w ∷ L) s = rw (length-append f (termsOf L)) (omega (arith, s .0, length-terms L (s .1)))
 
-weight-is : (u w : ℤ) → T (sameWeight u w) → u ≡ w
-weight-is (pos m) (pos n) t = ap pos (eqb→eq m n t)
-weight-is (pos m) (negsuc n) t = absurd t
-weight-is (negsuc m) (pos n) t = absurd t
-weight-is (negsuc m) (negsuc n) t = ap negsuc (eqb→eq m n t)
+terms-room : (n : ℕ) (L : List Line) → IsConfiguration n L → length (termsOf L) ≤ 8192
+terms-room n L q = omega (arith, length-terms L (configuration-short q), q .room)
 
-weight-self : (w : ℤ) → T (sameWeight w w)
-weight-self (pos n) = eqb-refl n
-weight-self (negsuc n) = eqb-refl n
-
-entry-is : (d e : Entry) → T (sameEntry d e) → d ≡ e
-entry-is d e t =
-    let a : Bool = sameWeight (d .weight) (e .weight) in
-    let b : Bool = eqb (d .count) (e .count) in
-    ap₂ (λ (w : ℤ) (n : ℕ). record { weight = w; count = n }) (weight-is (d .weight) (e .weight) (left a b t)) (eqb→eq (d .count) (e .count) (right a b t))
-
-entry-self : (e : Entry) → T (sameEntry e e)
-entry-self e = both (sameWeight (e .weight) (e .weight)) (eqb (e .count) (e .count)) (weight-self (e .weight)) (eqb-refl (e .count))
-
-memory-is : (m k : Memory) → T (sameMemory m k) → m ≡ k
-memory-is m k t =
-    let a : Bool = eqb (m .variables) (k .variables) in
-    let b : Bool = eqb (m .lines) (k .lines) in
-    let c : Bool = alike eqb (m .terms) (k .terms) in
-    let d : Bool = alike sameEntry (m .table) (k .table) in
-    let u : T (b && (c && d)) = right a (b && (c && d)) t in
-    let v : T (c && d) = right b (c && d) u in
-    let ev : m .variables ≡ k .variables = eqb→eq (m .variables) (k .variables) (left a (b && (c && d)) t) in
-    let el : m .lines ≡ k .lines = eqb→eq (m .lines) (k .lines) (left b (c && d) u) in
-    let et : m .terms ≡ k .terms = alike-is eqb eqb→eq (m .terms) (k .terms) (left c d v) in
-    let ee : m .table ≡ k .table = alike-is sameEntry entry-is (m .table) (k .table) (right c d v) in
-    λ i. record { variables = ev i; lines = el i; terms = et i; table = ee i }
-
-memory-self : (m : Memory) → T (sameMemory m m)
-memory-self m =
-    let c : Bool = alike eqb (m .terms) (m .terms) in
-    let d : Bool = alike sameEntry (m .table) (m .table) in
-    both (eqb (m .variables) (m .variables)) (eqb (m .lines) (m .lines) && (c && d)) (eqb-refl (m .variables))
-    (both (eqb (m .lines) (m .lines)) (c && d) (eqb-refl (m .lines)) (both c d (alike-self eqb eqb-refl (m .terms)) (alike-self sameEntry entry-self (m .table))))
+pub back-to-back : Faithful backToBack
+back-to-back = record {
+  room = λ n L h. terms-room n L (configuration-parts n L h);
+  back = λ n L h. read-laid L (replicate (8192 - length (termsOf L)) 0) (replicate (128 - length L) unused);
+}
 
 -- ---- zeros
 pub zeros-replicate : (l : List ℕ) → T (zeros l) → l ≡ replicate (length l) 0
@@ -79,106 +45,21 @@ unfolding zeros
 zeros-replicate [] h = refl
 zeros-replicate (x ∷ l) h = ap₂ (λ (y : ℕ) (m : List ℕ). y ∷ m) (eqb→eq x 0 (left (eqb x 0) (zeros l) h)) (zeros-replicate l (right (eqb x 0) (zeros l) h))
 
-pub replicate-zeros : (n : ℕ) → T (zeros (replicate n 0))
+pub zeros-past : (l : List ℕ) (n : ℕ) → length l ≤ n → T (zeros (drop n l))
+unfolding zeros
+zeros-past l n h = rw (drop-of-length-le l {i = n} h) tt
+
+replicate-zeros : (n : ℕ) → T (zeros (replicate n 0))
 unfolding zeros
 replicate-zeros zero = tt
 replicate-zeros (suc n) = replicate-zeros n
 
--- ---- lines laid out and read back, whatever stands behind them
-padded : (f : List ℕ) → length f ≤ 64 → length (f ++ replicate (64 - length f) 0) ≡ 64
-padded f h = simp (length-append, length-replicate) (omega arith)
-
-read-laid : (L : List Line) (x : List ℕ) (y : List Entry) → Short L → readLines (length L) (termAreaOf L ++ x) (entriesOf L ++ y) ≡ L
-unfolding readLines termAreaOf entriesOf
-read-laid [] x y s = refl
-read-laid (line f w ∷ L) x y s =
-    let p : List ℕ = f ++ replicate (64 - length f) 0 in
-    rw (append-assoc p (termAreaOf L) x, drop-at p (termAreaOf L ++ x) 64 (padded f (s .0)), read-laid L x y (s .1))
-    (rw (append-assoc f (replicate (64 - length f) 0) (termAreaOf L ++ x), take-append-seam f (replicate (64 - length f) 0 ++ (termAreaOf L ++ x))))
-
-pub there-and-back : (n : ℕ) (L : List Line) → T (isConfiguration n L) → standingOf (imageOf n L) ≡ L
-there-and-back n L h = read-laid L (replicate (64 * (128 - length L)) 0) (replicate (128 - length L) unused) (configuration-short (configuration-parts n L h))
-
--- ---- well formed
-pub image-well : (n : ℕ) (L : List Line) → T (isConfiguration n L) → T (wellFormed (imageOf n L))
-image-well n L h =
-    rw (there-and-back n L h) (both (isConfiguration n L) (sameMemory (imageOf n L) (imageOf n L)) h (memory-self (imageOf n L)))
-
-module _ (m : Memory) (h : T (wellFormed m)) where
-  pub well-image : m ≡ imageOf (m .variables) (standingOf m)
-  well-image =
-      memory-is m (imageOf (m .variables) (standingOf m))
-      (right (isConfiguration (m .variables) (standingOf m)) (sameMemory m (imageOf (m .variables) (standingOf m))) h)
-
-  pub well-configuration : T (isConfiguration (m .variables) (standingOf m))
-  well-configuration = left (isConfiguration (m .variables) (standingOf m)) (sameMemory m (imageOf (m .variables) (standingOf m))) h
-
-  pub well-parts : IsConfiguration (m .variables) (standingOf m)
-  well-parts = configuration-parts (m .variables) (standingOf m) well-configuration
-
--- ---- lengths
-pub length-terms : (L : List Line) → Short L → length (termAreaOf L) ≡ 64 * length L
-unfolding termAreaOf
-length-terms [] s = refl
-length-terms (line f w ∷ L) s =
-    length-append (f ++ replicate (64 - length f) 0) (termAreaOf L) ∙ omega (arith, padded f (s .0), length-terms L (s .1))
-
-pub length-entries : (L : List Line) → length (entriesOf L) ≡ length L
-unfolding entriesOf
-length-entries [] = refl
-length-entries (line f w ∷ L) = ap suc (length-entries L)
-
-pub length-read : (k : ℕ) (ts : List ℕ) (t : List Entry) → k ≤ length t → length (readLines k ts t) ≡ k
-unfolding readLines
-length-read zero ts t h = refl
-length-read (suc k) ts [] h = absurd (not-suc-le-zero h)
-length-read (suc k) ts (e ∷ t) h = ap suc (length-read k (drop 64 ts) t (le-of-suc-le-suc h))
-
--- ---- an image is cleared
-cleared-none : (n : ℕ) → T (cleared (replicate (64 * n) 0) (replicate n unused))
-unfolding cleared
-cleared-none zero = tt
-cleared-none (suc n) =
-    let r : List ℕ = replicate (64 * n) 0 in
-    let s : List ℕ = replicate 64 0 in
-    let e : replicate {A = ℕ} (64 * suc n) 0 ≡ s ++ r = ap (λ (k : ℕ). replicate {A = ℕ} k 0) (next n) ∙ sym (replicate-append-replicate 64 (64 * n) 0) in
-    rw (e, take-at s r 64 (length-replicate {A = ℕ} 64 0), drop-at s r 64 (length-replicate {A = ℕ} 64 0))
-    (both (zeros s) (cleared r (replicate n unused)) (replicate-zeros 64) (cleared-none n))
-  where
-    next : (n : ℕ) → 64 * suc n ≡ 64 + 64 * n
-    next n = omega arith
-
-cleared-lines : (L : List Line) (x : List ℕ) (y : List Entry) → Short L → T (cleared x y) → T (cleared (termAreaOf L ++ x) (entriesOf L ++ y))
-unfolding cleared termAreaOf entriesOf
-cleared-lines [] x y s h = h
-cleared-lines (line f w ∷ L) x y s h =
-    let p : List ℕ = f ++ replicate (64 - length f) 0 in
-    let z : List ℕ = replicate (64 - length f) 0 in
-    rw (
-      append-assoc p (termAreaOf L) x,
-      drop-at p (termAreaOf L ++ x) 64 (padded f (s .0)),
-      take-at p (termAreaOf L ++ x) 64 (padded f (s .0)),
-      drop-append-seam f z,
-    ) (both (leb (length f) 64 && zeros z) (cleared (termAreaOf L ++ x) (entriesOf L ++ y))
-    (both (leb (length f) 64) (zeros z) (le→leb (length f) 64 (s .0)) (replicate-zeros (64 - length f))) (cleared-lines L x y (s .1) h))
-
-pub image-cleared : (n : ℕ) (L : List Line) → Short L → T (cleared (imageOf n L .terms) (imageOf n L .table))
-image-cleared n L s = cleared-lines L (replicate (64 * (128 - length L)) 0) (replicate (128 - length L) unused) s (cleared-none (128 - length L))
-
--- the image of no lines, with which a filing begins
-pub none-image : (n : ℕ) → imageOf n [] ≡ record { variables = n; lines = 0; terms = replicate 8192 0; table = replicate 128 unused }
-unfolding termAreaOf entriesOf
-none-image n = refl
-
-pub none-cleared : T (cleared (replicate 8192 0) (replicate 128 unused))
-none-cleared = cleared-none 128
-
+-- ---- unused entries
 unused-none : (n : ℕ) → T (allUnused (replicate n unused))
 unfolding allUnused
 unused-none zero = tt
 unused-none (suc n) = unused-none n
 
--- ---- what is cleared is an image
 isZero→eq : (w : ℤ) → T (isZero w) → w ≡ pos 0
 isZero→eq (pos zero) h = refl
 isZero→eq (pos (suc n)) h = absurd h
@@ -195,83 +76,73 @@ all-unused [] h = refl
 all-unused (e ∷ t) h =
     ap₂ (λ (x : Entry) (y : List Entry). x ∷ y) (unused-is e (left (isUnused e) (allUnused t) h)) (all-unused t (right (isUnused e) (allUnused t) h))
 
-module _ (ts : List ℕ) (e : Entry) (h : T (rowCleared ts e)) where
-  pub row-short : e .count ≤ 64
-  row-short = leb→le (e .count) 64 (left (leb (e .count) 64) (zeros (slice (e .count) 64 ts)) h)
+-- ---- how many places entries count
+used-append : (s t : List Entry) → usedBy (s ++ t) ≡ usedBy s + usedBy t
+unfolding usedBy
+used-append [] t = omega arith
+used-append (e ∷ s) t = omega (arith, used-append s t)
 
-  -- the terms, and zeros behind them
-  row-is : 64 ≤ length ts → take 64 ts ≡ take (e .count) ts ++ replicate (64 - length (take (e .count) ts)) 0
-  row-is l =
-      let n : ℕ = e .count in
-      let n≤ : n ≤ length ts = omega (arith, row-short) in
-      let z : slice n 64 ts ≡ replicate (64 - n) 0 =
-      zeros-replicate (slice n 64 ts) (right (leb n 64) (zeros (slice n 64 ts)) h) ∙ rw (length-slice n 64 ts l) in
-      sym (take-append-drop n (take 64 ts)) ∙ rw (take-take n 64 ts row-short, z, length-take-le n ts n≤)
+used-none : (n : ℕ) → usedBy (replicate n unused) ≡ 0
+unfolding usedBy
+used-none zero = refl
+used-none (suc n) = omega (arith, used-none n)
 
-module _ (ts : List ℕ) (e : Entry) (t : List Entry) (h : T (cleared ts (e ∷ t))) where
-  pub first-cleared : T (rowCleared ts e)
-  unfolding cleared
-  first-cleared = left (rowCleared ts e) (cleared (drop 64 ts) t) h
+used-lines : (L : List Line) → usedBy (entriesOf L) ≡ length (termsOf L)
+unfolding usedBy entriesOf termsOf
+used-lines [] = refl
+used-lines (line f w ∷ L) = ap (λ (n : ℕ). length f + n) (used-lines L) ∙ sym (length-append f (termsOf L))
 
-  pub rest-cleared : T (cleared (drop 64 ts) t)
-  unfolding cleared
-  rest-cleared = right (rowCleared ts e) (cleared (drop 64 ts) t) h
+-- the first entries, one more, and all of them where the others are unused
+used-parts : (k : ℕ) (t : List Entry) → usedBy (take k t) + usedBy (drop k t) ≡ usedBy t
+used-parts k t = sym (used-append (take k t) (drop k t)) ∙ ap usedBy (take-append-drop k t)
 
-empty : (ts : List ℕ) → length ts ≡ 0 → ts ≡ []
-empty [] e = refl
-empty (x ∷ ts) e = let z : ⊥ = omega arith in absurd z
+pub used-take : (k : ℕ) (t : List Entry) → usedBy (take k t) ≤ usedBy t
+used-take k t = omega (arith, used-parts k t)
 
--- rows that no line has are zero
-none-zero : (ts : List ℕ) (t : List Entry) → T (cleared ts t) → T (allUnused t) → length ts ≡ 64 * length t → ts ≡ replicate (64 * length t) 0
-unfolding allUnused
-none-zero ts [] h u l = empty ts (omega arith)
-none-zero ts (e ∷ t) h u l =
-    let z : e ≡ unused = unused-is e (left (isUnused e) (allUnused t) u) in
-    let r : T (rowCleared ts unused) = subst (λ (d : Entry). T (rowCleared ts d)) z (first-cleared ts e t h) in
-    let k : 64 ≤ length ts = omega arith in
-    let a : take 64 ts ≡ replicate 64 0 = row-is ts unused r k in
-    let b : drop 64 ts ≡ replicate (64 * length t) 0 =
-    none-zero (drop 64 ts) t (rest-cleared ts e t h) (right (isUnused e) (allUnused t) u) (omega (arith, length-drop 64 ts)) in
-    sym (take-append-drop 64 ts) ∙ ap₂ (λ (x y : List ℕ). x ++ y) a b ∙ replicate-append-replicate 64 (64 * length t) 0
-    ∙ ap (λ (k : ℕ). replicate k 0) (next (length t))
-  where
-    next : (n : ℕ) → 64 + 64 * n ≡ 64 * suc n
-    next n = omega arith
+pub used-next : (k : ℕ) (t : List Entry) → k < length t → usedBy (take k t) + getD t k unused .count ≡ usedBy (take (k + 1) t)
+unfolding usedBy
+used-next k t h =
+    let e : Entry = getD t k unused in
+    omega (arith, used-append (take k t) (e ∷ []), ap usedBy (ap (λ (j : ℕ). take j t) (add-one k) ∙ take-suc t k unused h))
 
-cleared-terms : (k : ℕ) (ts : List ℕ) (t : List Entry) → T (cleared ts t) → T (allUnused (drop k t)) → k ≤ length t → length ts ≡ 64 * length t
-    → ts ≡ termAreaOf (readLines k ts t) ++ replicate (64 * (length t - k)) 0
-unfolding readLines termAreaOf
-cleared-terms zero ts t h u k l = rw (sub-zero (length t)) (none-zero ts t h u l)
-cleared-terms (suc k) ts [] h u b l = absurd (not-suc-le-zero b)
-cleared-terms (suc k) ts (e ∷ t) h u b l =
-    let f : List ℕ = take (e .count) ts in
-    let L : List Line = readLines k (drop 64 ts) t in
-    let z : List ℕ = replicate (64 * (length t - k)) 0 in
-    rw (suc-sub-suc (length t) k)
-    (sym (take-append-drop 64 ts)
-    ∙ ap₂ (λ (x y : List ℕ). x ++ y) (row-is ts e (first-cleared ts e t h) (omega arith))
-    (cleared-terms k (drop 64 ts) t (rest-cleared ts e t h) u (le-of-suc-le-suc b) (omega (arith, length-drop 64 ts)))
-    ∙ sym (append-assoc (f ++ replicate (64 - length f) 0) (termAreaOf L) z))
+used-front : (k : ℕ) (t : List Entry) → T (allUnused (drop k t)) → usedBy (take k t) ≡ usedBy t
+used-front k t u =
+    let z : usedBy (drop k t) ≡ 0 = ap usedBy (all-unused (drop k t) u) ∙ used-none (length (drop k t)) in
+    omega (arith, used-parts k t)
 
-cleared-entries : (k : ℕ) (ts : List ℕ) (t : List Entry) → T (cleared ts t) → T (allUnused (drop k t)) → k ≤ length t → length ts ≡ 64 * length t
-    → t ≡ entriesOf (readLines k ts t) ++ replicate (length t - k) unused
-unfolding readLines entriesOf
-cleared-entries zero ts t h u k l = rw (sub-zero (length t)) (all-unused t u)
-cleared-entries (suc k) ts [] h u b l = absurd (not-suc-le-zero b)
-cleared-entries (suc k) ts (e ∷ t) h u b l =
-    let c : e .count ≤ length ts = omega (arith, row-short ts e (first-cleared ts e t h)) in
-    rw (suc-sub-suc (length t) k)
-    (ap₂ (λ (n : ℕ) (y : List Entry). record { weight = e .weight; count = n } ∷ y) (sym (length-take-le (e .count) ts c))
-    (cleared-entries k (drop 64 ts) t (rest-cleared ts e t h) u (le-of-suc-le-suc b) (omega (arith, length-drop 64 ts))))
+-- ---- what is read is what stands there
+pub length-read : (k : ℕ) (ts : List ℕ) (t : List Entry) → k ≤ length t → length (readLines k ts t) ≡ k
+unfolding readLines
+length-read zero ts t h = refl
+length-read (suc k) ts [] h = absurd (not-suc-le-zero h)
+length-read (suc k) ts (e ∷ t) h = ap suc (length-read k (drop (e .count) ts) t (le-of-suc-le-suc h))
 
--- ---- the parts of the test 'well formed', as code makes it
+read-terms : (k : ℕ) (ts : List ℕ) (t : List Entry) → k ≤ length t → termsOf (readLines k ts t) ≡ take (usedBy (take k t)) ts
+unfolding readLines termsOf usedBy
+read-terms zero ts t h = refl
+read-terms (suc k) ts [] h = absurd (not-suc-le-zero h)
+read-terms (suc k) ts (e ∷ t) h =
+    let n : ℕ = e .count in
+    ap (λ (x : List ℕ). take n ts ++ x) (read-terms k (drop n ts) t (le-of-suc-le-suc h)) ∙ sym (take-add n (usedBy (take k t)) ts)
+
+read-entries : (k : ℕ) (ts : List ℕ) (t : List Entry) → k ≤ length t → usedBy (take k t) ≤ length ts → entriesOf (readLines k ts t) ≡ take k t
+unfolding readLines entriesOf usedBy
+read-entries zero ts t h u = refl
+read-entries (suc k) ts [] h u = absurd (not-suc-le-zero h)
+read-entries (suc k) ts (e ∷ t) h u =
+    let n : ℕ = e .count in
+    ap₂ (λ (c : ℕ) (x : List Entry). record { weight = e .weight; count = c } ∷ x) (length-take-le n ts (omega arith))
+    (read-entries k (drop n ts) t (le-of-suc-le-suc h) (omega (arith, length-drop n ts)))
+
+-- ---- the parts of the test
 pub record Formed (m : Memory) : Type 0 where
   pub terms-length : length (m .terms) ≡ 8192
   pub table-length : length (m .table) ≡ 128
   pub room : m .lines ≤ 128
   pub variables : m .variables ≤ 32
-  pub rows : T (cleared (m .terms) (m .table))
   pub behind : T (allUnused (drop (m .lines) (m .table)))
+  pub used : usedBy (m .table) ≤ 8192
+  pub rest : T (zeros (drop (usedBy (m .table)) (m .terms)))
   pub fit : T (linesFit (m .variables) (standingOf m))
   pub weights : T (weightsFit (standingOf m))
 
@@ -279,39 +150,50 @@ pub well-formed : (m : Memory) → T (wellFormed m) → Formed m
 well-formed m h =
     let L : List Line = standingOf m in
     let i : Memory = imageOf (m .variables) L in
-    let e : m ≡ i = well-image m h in
-    let q : IsConfiguration (m .variables) L = well-parts m h in
-    let s : Short L = configuration-short q in
+    let e : m ≡ i = well-image backToBack m h in
+    let q : IsConfiguration (m .variables) L = well-parts backToBack m h in
     let z : ℕ = 128 - length L in
-    let lt : length (i .terms) ≡ 8192 = simp (length-append, length-replicate) (omega (arith, length-terms L s, q .room)) in
+    let r : length (termsOf L) ≤ 8192 = terms-room (m .variables) L q in
+    let x : List ℕ = replicate (8192 - length (termsOf L)) 0 in
+    let lt : length (i .terms) ≡ 8192 = simp (length-append, length-replicate) (omega (arith, r)) in
     let le : length (i .table) ≡ 128 = simp (length-append, length-replicate) (omega (arith, length-entries L, q .room)) in
-    let ub : T (allUnused (drop (length L) (entriesOf L ++ replicate z unused))) = rw (drop-at (entriesOf L) (replicate z unused) (length L) (length-entries L)) (unused-none z) in
+    let ub : T (allUnused (drop (length L) (i .table))) = rw (drop-at (entriesOf L) (replicate z unused) (length L) (length-entries L)) (unused-none z) in
+    let us : usedBy (i .table) ≡ length (termsOf L) = omega (arith, used-append (entriesOf L) (replicate z unused), used-lines L, used-none z) in
+    let ur : T (zeros (drop (usedBy (i .table)) (i .terms))) = rw (us, drop-append-seam (termsOf L) x) (replicate-zeros (8192 - length (termsOf L))) in
     record {
       terms-length = ap (λ (k : Memory). length (k .terms)) e ∙ lt;
       table-length = ap (λ (k : Memory). length (k .table)) e ∙ le;
       room = subst (λ (k : ℕ). k ≤ 128) (sym (ap (λ (k : Memory). k .lines) e)) (q .room);
       variables = q .variables;
-      rows = subst (λ (k : Memory). T (cleared (k .terms) (k .table))) (sym e) (image-cleared (m .variables) L s);
       behind = subst (λ (k : Memory). T (allUnused (drop (k .lines) (k .table)))) (sym e) ub;
+      used = subst (λ (k : Memory). usedBy (k .table) ≤ 8192) (sym e) (omega (arith, us, r));
+      rest = subst (λ (k : Memory). T (zeros (drop (usedBy (k .table)) (k .terms)))) (sym e) ur;
       fit = q .fit;
       weights = q .weights;
     }
 
-pub well-sized : (m : Memory) → T (wellFormed m) → T (sized m)
-well-sized m h =
-    let q : Formed m = well-formed m h in
-    both (eqb (length (m .terms)) 8192) (eqb (length (m .table)) 128) (eq→eqb (length (m .terms)) 8192 (q .terms-length)) (eq→eqb (length (m .table)) 128 (q .table-length))
+-- a part of an area, and zeros behind it
+zeros-behind : (ts : List ℕ) (u : ℕ) → length ts ≡ 8192 → u ≤ 8192 → T (zeros (drop u ts)) → ts ≡ take u ts ++ replicate (8192 - length (take u ts)) 0
+zeros-behind ts u n b z =
+    let a : length (drop u ts) ≡ 8192 - length (take u ts) = omega (arith, length-drop u ts, length-take-le u ts (omega arith)) in
+    sym (take-append-drop u ts) ∙ ap (λ (x : List ℕ). take u ts ++ x) (zeros-replicate (drop u ts) z ∙ ap (λ (k : ℕ). replicate k 0) a)
 
 pub formed-well : (m : Memory) → Formed m → T (wellFormed m)
 formed-well m q =
     let L : List Line = standingOf m in
-    let k : length L ≡ m .lines = length-read (m .lines) (m .terms) (m .table) (omega (arith, q .room, q .table-length)) in
-    let b : m .lines ≤ length (m .table) = omega (arith, q .room, q .table-length) in
-    let l : length (m .terms) ≡ 64 * length (m .table) = omega (arith, q .terms-length, q .table-length) in
-    let z : length (m .table) - m .lines ≡ 128 - length L = omega (arith, q .table-length) in
-    let et : m .terms ≡ imageOf (m .variables) L .terms = rw z at (cleared-terms (m .lines) (m .terms) (m .table) (q .rows) (q .behind) b l) in
-    let ee : m .table ≡ imageOf (m .variables) L .table = rw z at (cleared-entries (m .lines) (m .terms) (m .table) (q .rows) (q .behind) b l) in
-    let e : m ≡ imageOf (m .variables) L = λ i. record { variables = m .variables; lines = sym k i; terms = et i; table = ee i } in
+    let t : List Entry = m .table in
+    let k : ℕ = m .lines in
+    let b : k ≤ length t = omega (arith, q .room, q .table-length) in
+    let c : length L ≡ k = length-read k (m .terms) t b in
+    let u : usedBy (take k t) ≡ usedBy t = used-front k t (q .behind) in
+    let s : take (usedBy t) (m .terms) ≡ termsOf L = ap (λ (n : ℕ). take n (m .terms)) (sym u) ∙ sym (read-terms k (m .terms) t b) in
+    let et : m .terms ≡ imageOf (m .variables) L .terms =
+    zeros-behind (m .terms) (usedBy t) (q .terms-length) (q .used) (q .rest) ∙ ap (λ (x : List ℕ). x ++ replicate (8192 - length x) 0) s in
+    let z : length (drop k t) ≡ 128 - length L = omega (arith, length-drop k t, q .table-length) in
+    let d : drop k t ≡ replicate (128 - length L) unused = all-unused (drop k t) (q .behind) ∙ ap (λ (n : ℕ). replicate n unused) z in
+    let ee : m .table ≡ imageOf (m .variables) L .table =
+    sym (take-append-drop k t) ∙ ap₂ (λ (x y : List Entry). x ++ y) (sym (read-entries k (m .terms) t b (omega (arith, q .used, q .terms-length)))) d in
+    let e : m ≡ imageOf (m .variables) L = λ i. record { variables = m .variables; lines = sym c i; terms = et i; table = ee i } in
     both (isConfiguration (m .variables) L) (sameMemory m (imageOf (m .variables) L))
     (parts-configuration (m .variables) L (record { variables = q .variables; room = omega (arith, q .room); fit = q .fit; weights = q .weights }))
     (subst (λ (x : Memory). T (sameMemory m x)) e (memory-self m))

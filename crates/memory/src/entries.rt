@@ -4,8 +4,9 @@ ghost use mathlib.Core.Path.{_≡_};
 ghost use Prim.Native.Nat.{_<_};
 ghost use lib.ListN.{length, getD, set, replicate};
 ghost use Rattle.memory.specs.Memory.{unused};
+ghost use Rattle.memory.specs.Places.{usedBy};
 
-// A table in which no line is held: with a cleared term area it is the image of no lines.
+// A table in which no line is held.
 pub fn no_entries() -> [Entry; 128]
     ensures { λ r. ⌜ r ≡ replicate 128 unused ⌝ }
 {
@@ -55,4 +56,18 @@ pub fn store(table: &mut [Entry], entries: [Entry; 128])
         set_line(table, i, entries[i]);
         i += 1;
     }
+}
+
+// How many terms entries count together, whatever their counts are: 128 of them fit in 64 bits.
+pub fn used_by(entries: [Entry; 128]) -> usize
+    ensures { λ r. ⌜ r ≡ usedBy entries ⌝ }
+{
+    let mut used: usize = 0;
+    let mut i: usize = 0;
+    while i < 128 {
+        let entry = entries[i];
+        used += entry.count as usize;
+        i += 1;
+    }
+    used
 }

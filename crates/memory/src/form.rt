@@ -2,23 +2,23 @@
 use crate::Entry;
 use crate::Head;
 use crate::area::is_zero;
+use crate::area::part;
+use crate::entries::used_by;
 use configuration::form::is_below;
 use configuration::weight::within_limit;
 use polynomial::Ordering;
 use polynomial::Polynomial;
 use polynomial::order::compare;
 use polynomial::order::in_order;
-use table::lines::row;
 ghost use mathlib.Core.Path.{_≡_};
 ghost use mathlib.Core.Bool.{true, false, _&&_};
-ghost use Prim.Native.Nat.{_+_, _*_, _≤_};
-ghost use lib.Dec.{T};
+ghost use Prim.Native.Nat.{_≤_};
 ghost use lib.ListN.{length, drop};
 ghost use Rattle.polynomial.specs.Polynomial.{orderOf};
 ghost use Rattle.configuration.specs.Weight.{inRange};
 ghost use Rattle.configuration.specs.Configuration.{line, byOrder, isPolynomial, lineFits, linesFit, weightsFit};
 ghost use Rattle.memory.specs.Memory.{readLines, memoryBefore, wellFormed};
-ghost use Rattle.memory.specs.Layout.{rowCleared, cleared, isUnused, allUnused};
+ghost use Rattle.memory.specs.Places.{usedBy, isUnused, allUnused};
 
 // Whether a run of terms is a polynomial of so many variables.
 fn is_polynomial(variables: u32, terms: &[u32]) -> bool
@@ -60,36 +60,6 @@ fn stands_before(f: &[u32], g: &[u32]) -> bool
     true
 }
 
-// Whether an entry counts at most 64 terms, and the places of its row behind them are zero.
-fn row_cleared(terms: &[u32], i: usize, entry: Entry) -> bool
-    requires { ⌜ 64 * i + 64 ≤ length (now terms) ⌝ }
-    ensures { λ r. ⌜ r ≡ rowCleared (drop (64 * i) (now (terms .entry))) entry ⌝ }
-{
-    let count = entry.count as usize;
-    if 64 < count {
-        return false;
-    }
-    let start = 64 * i + count;
-    let end = 64 * i + 64;
-    is_zero(&terms[start..end])
-}
-
-// Whether the places of a term area that no entry counts are zero.
-fn rows_cleared(terms: &[u32], entries: [Entry; 128]) -> bool
-    requires { ⌜ length (now terms) ≡ 8192 ⌝ }
-    ensures { λ r. ⌜ r ≡ cleared (now (terms .entry)) entries ⌝ }
-{
-    let mut i: usize = 0;
-    while i < 128 {
-        let entry = entries[i];
-        if !row_cleared(terms, i, entry) {
-            return false;
-        }
-        i += 1;
-    }
-    true
-}
-
 // Whether an entry is that of no line.
 fn is_unused(entry: Entry) -> bool
     ensures { λ r. ⌜ r ≡ isUnused entry ⌝ }
@@ -119,27 +89,28 @@ fn none_behind(lines: usize, entries: [Entry; 128]) -> bool
 
 // Whether the first lines of a table may be held, and stand in order.
 fn lines_fit(variables: u32, lines: usize, terms: &[u32], entries: [Entry; 128]) -> bool
-    requires { ⌜ (length (now terms) ≡ 8192) × (lines ≤ 128) × T (cleared (now terms) entries) ⌝ }
+    requires { ⌜ (lines ≤ 128) × (usedBy entries ≤ length (now terms)) ⌝ }
     ensures { λ r. let L = readLines lines (now (terms .entry)) entries in ⌜ r ≡ (linesFit variables L && weightsFit L) ⌝ }
 {
     let mut i: usize = 0;
+    let mut start: usize = 0;
     while i < lines {
         let entry = entries[i];
         let count = entry.count as usize;
         let weight = entry.weight;
-        let here = row(terms, i, count);
+        let here = part(terms, start, count);
         if !line_fits(variables, here, weight) {
             return false;
         }
-        let next = i + 1;
-        if next < lines {
-            let other = entries[next];
-            let size = other.count as usize;
-            if !stands_before(here, row(terms, next, size)) {
+        i += 1;
+        start += count;
+        if i < lines {
+            let next = entries[i];
+            let size = next.count as usize;
+            if !stands_before(here, part(terms, start, size)) {
                 return false;
             }
         }
-        i = next;
     }
     true
 }
@@ -159,10 +130,14 @@ pub fn well_formed(head: Head, terms: &[u32], entries: [Entry; 128]) -> bool
     if 32 < variables {
         return false;
     }
-    if !rows_cleared(terms, entries) {
+    if !none_behind(lines, entries) {
         return false;
     }
-    if !none_behind(lines, entries) {
+    let used = used_by(entries);
+    if 8192 < used {
+        return false;
+    }
+    if !is_zero(part(terms, used, 8192 - used)) {
         return false;
     }
     lines_fit(variables, lines, terms, entries)

@@ -1,8 +1,8 @@
 // From what is lent to the working form.
 use crate::Entry;
 use crate::Head;
+use crate::area::part;
 use table::lines::append;
-use table::lines::row;
 ghost use mathlib.Core.Path.{_≡_};
 ghost use lib.Dec.{T};
 ghost use lib.ListN.{length};
@@ -27,12 +27,14 @@ pub fn open(
 {
     let lines = head.lines as usize;
     let mut held: usize = 0;
+    let mut start: usize = 0;
     while held < lines {
         let entry = entries[held];
         let count = entry.count as usize;
         let weight = entry.weight;
-        let f = row(terms, held, count);
+        let f = part(terms, start, count);
         held = append(held, order, rows, weights, counts, f, weight);
+        start += count;
     }
     held
 }

@@ -6,8 +6,9 @@ use lib.Dec.{T}
 use Rattle.run.specs.BooleanLaws.{is-true}
 use Rattle.configuration.specs.Configuration.{Line}
 use Rattle.configuration.specs.Made.{Made}
-use Rattle.memory.specs.Memory.{Memory, standingOf, imageOf, sized}
-use Rattle.memory.specs.MemoryLaws.{there-and-back, image-well}
+use Rattle.memory.specs.Memory.{Memory, backToBack, standingOf, imageOf, sized}
+use Rattle.memory.specs.LayoutLaws.{image-well}
+use Rattle.memory.specs.MemoryLaws.{back-to-back}
 use Rattle.problem.specs.Problem.{fileProblem}
 use Rattle.problem.specs.ProblemLaws.{filed-configuration}
 use Rattle.derivation.specs.Derivation.{Confirmation, checkDerivation}
@@ -31,10 +32,10 @@ module _ (s : List ℕ) where
   memory = imageOf (x .variables) (x .lines)
 
   file-is : (m : Memory) → T (sized m) → fileIn s m ≡ laidOut x
-  file-is m h = file-sized s m (is-true (sized m) h)
+  file-is m h = file-sized backToBack s m (is-true (sized m) h)
 
   file-back : standingOf memory ≡ x .lines
-  file-back = there-and-back (x .variables) (x .lines) (filed-configuration s)
+  file-back = back-to-back .back (x .variables) (x .lines) (filed-configuration s)
 
   pub code-printed : (m : Memory) → T (sized m) → (let left = fileIn s m in codeOutput s ≡ ifFiled (left .told) (codeText (codeIn (left .memory))))
   unfolding codeOutput
@@ -49,12 +50,12 @@ module _ (s : List ℕ) where
 
     check-is : checkIn t memory ≡ laidOut y
     check-is =
-        check-well t memory (image-well (x .variables) (x .lines) (filed-configuration s))
+        check-well back-to-back t memory (image-well backToBack back-to-back (x .variables) (x .lines) (filed-configuration s))
         ∙ ap (λ (L : List Line). laidOut (checkDerivation t (x .variables) L)) file-back
 
     check-back : standingOf (imageOf (y .variables) (y .lines)) ≡ y .lines
     check-back =
-        there-and-back (y .variables) (y .lines)
+        back-to-back .back (y .variables) (y .lines)
         (rw (check-variables t (x .variables) (x .lines)) (check-configuration t (x .variables) (x .lines) (filed-configuration s)))
 
     -- what is printed of what is left by a filing and by a check

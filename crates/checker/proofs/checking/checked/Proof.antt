@@ -1,13 +1,17 @@
 -- `checked` meets its contract: the lines are read, checked and written back.
 use mathlib.Core.Path.{sym, ap, subst, _∙_}
 use mathlib.Core.List.{List}
+use Prim.Native.Nat.{ℕ, _≤_}
 use lib.Dec.{T}
+use lib.ListN.{drop}
 use denote.Ref.{now}
 use borrow.Author.Needs.{needs}
 use Rattle.refusal.specs.Outcome.{accepted}
 use Rattle.configuration.specs.Configuration.{Line, isConfiguration}
-use Rattle.memory.specs.Memory.{Memory, memoryOf}
-use Rattle.memory.specs.MemoryLaws.{well-formed, well-configuration}
+use Rattle.memory.specs.Memory.{Memory, memoryOf, backToBack}
+use Rattle.memory.specs.Places.{zeros}
+use Rattle.memory.specs.LayoutLaws.{well-configuration}
+use Rattle.memory.specs.MemoryLaws.{well-formed}
 use Rattle.derivation.specs.Derivation.{checkDerivation, toldOfCheck}
 use Rattle.checker.specs.Checker.{leftBy}
 use Rattle.checker.proofs.Outcomes.{closed}
@@ -51,7 +55,10 @@ check-derivation-requires : tie.Need-check-derivation-requires
 check-derivation-requires c κs =
     let s = c .before .before .before .before .before .before .before .before .before .before .before .before .before .before .before .before .before in
     let o = c .before .before .before .before .before .before .before .before .«open» in
-    (o .ensures .1, subst (λ (L : List Line). T (isConfiguration (s .args .head .variables) L)) (sym (o .ensures .0)) (well-configuration (lent s) (s .pre)))
+    (o .ensures .1, subst (λ (L : List Line). T (isConfiguration (s .args .head .variables) L)) (sym (o .ensures .0)) (well-configuration backToBack (lent s) (s .pre)))
+
+used-by-requires : tie.Need-used-by-requires
+used-by-requires c κs = search needs
 
 slice-aggregate-close : tie.Need-slice-aggregate-close
 slice-aggregate-close c = search needs
@@ -67,9 +74,14 @@ slice-aggregate-close-4 c = search needs
 
 close-requires : tie.Need-close-requires
 close-requires c κs =
-    let s = c .before .before .before .before .before .before .before .before .before .before .before .before .before .before .before .before .before .before .before .before .before .before .before .before .before .before .before in
-    let q = well-formed (lent s) (s .pre) in
-    (c .before .before .before .before .before .before .before .before .before .check-derivation .ensures .1, q .terms-length, q .rows)
+    let s = c .before .before .before .before .before .before .before .before .before .before .before .before .before .before .before .before .before .before .before .before .before .before .before .before .before .before .before .before in
+    let u = c .before .before .before .before .before .used-by in
+    let q = well-formed (lent s) (s .pre) in (
+      c .before .before .before .before .before .before .before .before .before .before .check-derivation .ensures .1,
+      q .terms-length,
+      subst (λ (n : ℕ). n ≤ 8192) (sym (u .ensures)) (q .used),
+      subst (λ (n : ℕ). T (zeros (drop n (now (s .args .terms))))) (sym (u .ensures)) (q .rest),
+    )
 
 cast-lines : tie.Need-cast-lines
 cast-lines c = search needs
@@ -79,12 +91,12 @@ same-length c = search needs
 
 returns : tie.Need-returns
 returns c =
-    let s = c .before .before .before .before .before .before .before .before .before .before .before .before .before .before .before .before .before .before .before .before .before .before .before .before .before .before .before .before .before .before .before in
+    let s = c .before .before .before .before .before .before .before .before .before .before .before .before .before .before .before .before .before .before .before .before .before .before .before .before .before .before .before .before .before .before .before .before in
     let n = s .args .head .variables in
     let bytes = now (s .args .bytes) in
-    let k = c .before .before .before .before .before .before .before .before .before .before .before .before .before .check-derivation in
+    let k = c .before .before .before .before .before .before .before .before .before .before .before .before .before .before .check-derivation in
     closed n _ _ (toldOfCheck (k .result .answer)) _ (c .before .before .before .close .ensures n) (k .ensures .0)
-    ∙ ap (λ (L : List Line). leftBy (lent s) (accepted (checkDerivation bytes n L))) (c .before .before .before .before .before .before .before .before .before .before .before .before .before .before .before .before .before .before .before .before .before .before .«open» .ensures .0)
+    ∙ ap (λ (L : List Line). leftBy backToBack (lent s) (accepted (checkDerivation bytes n L))) (c .before .before .before .before .before .before .before .before .before .before .before .before .before .before .before .before .before .before .before .before .before .before .before .«open» .ensures .0)
 
 pub checked-spec : {M : Type 1} → statement M
 checked-spec =
@@ -101,6 +113,7 @@ checked-spec =
     slice-aggregate-check-derivation-3
     slice-aggregate-check-derivation-4
     check-derivation-requires
+    used-by-requires
     slice-aggregate-close
     slice-aggregate-close-2
     slice-aggregate-close-3

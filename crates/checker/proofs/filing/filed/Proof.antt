@@ -1,16 +1,16 @@
--- `filed` meets its contract: the records are read into a table that holds nothing, and its lines are written into a cleared area.
-use mathlib.Core.Path.{_≡_, sym, ap, subst, _∙_}
+-- `filed` meets its contract: the records are read into a table that holds nothing, and its lines are written back.
+use mathlib.Core.Path.{sym, subst}
 use mathlib.Core.List.{List}
 use Prim.Native.Nat.{ℕ}
-use lib.Dec.{T, lit≤}
+use native.Mathlib.Omega.{arith}
+use lib.Dec.{lit≤}
 use lib.IntN.{ℤ, pos}
-use lib.ListN.{length, length-replicate, replicate}
+use lib.ListN.{length-replicate, replicate}
+use denote.Ref.{now}
 use borrow.Author.Needs.{needs}
 use Rattle.table.specs.Rows.{Fits, inTurn}
 use Rattle.table.specs.RowsLaws.{fresh-fits}
-use Rattle.memory.specs.Layout.{cleared}
-use Rattle.memory.specs.MemoryLaws.{none-cleared}
-use Rattle.memory.specs.declared.Entry.{Entry}
+use Rattle.memory.specs.MemoryLaws.{zeros-past}
 use Rattle.problem.specs.Problem.{toldOfFiling}
 use Rattle.checker.proofs.Outcomes.{closed}
 use Rattle.checker.proofs.filing.filed.Statement.{statement}
@@ -41,12 +41,6 @@ file-problem-requires c κs =
     subst (λ (is : List ℕ). Fits 128 (record { lines = 0; order = is; terms = replicate 8192 0; weights = replicate 128 (pos 0); counts = replicate 128 0 }))
     (sym (c .before .before .before .before .fresh-order .ensures)) fresh
 
-clear-requires : tie.Need-clear-requires
-clear-requires c κs = search needs
-
-no-entries-requires : tie.Need-no-entries-requires
-no-entries-requires c κs = search needs
-
 slice-aggregate-close : tie.Need-slice-aggregate-close
 slice-aggregate-close c = search needs
 
@@ -61,13 +55,8 @@ slice-aggregate-close-4 c = search needs
 
 close-requires : tie.Need-close-requires
 close-requires c κs =
-    let s = c .before .before .before .before .before .before .before .before .before .before .before .before .before .before .before .before .before .before .before .before .before .before in
-    let e : c .before .before .before .before .before .before .before .before .clear .last .0 ≡ replicate 8192 0 = c .before .before .before .before .before .before .before .before .clear .ensures ∙ ap (λ (n : ℕ). replicate n 0) (s .pre) in (
-      c .before .before .before .before .before .before .before .before .before .before .before .before .before .before .file-problem .ensures .1,
-      ap length e ∙ length-replicate {A = ℕ} 8192 0,
-      subst (λ (l : List ℕ). T (cleared l (c .before .before .before .before .before .no-entries .result))) (sym e)
-          (subst (λ (t : List Entry). T (cleared (replicate 8192 0) t)) (sym (c .before .before .before .before .before .no-entries .ensures)) none-cleared),
-    )
+    let s = c .before .before .before .before .before .before .before .before .before .before .before .before .before .before .before .before .before in
+    (c .before .before .before .before .before .before .before .before .before .file-problem .ensures .1, s .pre, omega arith, zeros-past (now (s .args .terms)) 8192 (omega (arith, s .pre)))
 
 cast-lines : tie.Need-cast-lines
 cast-lines c = search needs
@@ -77,7 +66,7 @@ same-length c = search needs
 
 returns : tie.Need-returns
 returns c =
-    let k = c .before .before .before .before .before .before .before .before .before .before .before .before .before .before .before .before .before .before .file-problem in
+    let k = c .before .before .before .before .before .before .before .before .before .before .before .before .before .file-problem in
     closed (k .result .variables) _ _ (toldOfFiling (k .result .answer)) _ (c .before .before .before .close .ensures (k .result .variables)) (k .ensures .0)
 
 pub filed-spec : {M : Type 1} → statement M
@@ -90,8 +79,6 @@ filed-spec =
     slice-aggregate-file-problem-3
     slice-aggregate-file-problem-4
     file-problem-requires
-    clear-requires
-    no-entries-requires
     slice-aggregate-close
     slice-aggregate-close-2
     slice-aggregate-close-3

@@ -6,7 +6,7 @@ use lib.ListN.{length}
 use denote.Ref.{now}
 use borrow.Author.Tests.{eq-eqb, ne-eqb}
 use borrow.Author.Needs.{needs}
-use Rattle.memory.specs.Memory.{memoryOf, imageOf}
+use Rattle.memory.specs.Memory.{memoryOf, backToBack, imageOf}
 use Rattle.memory.specs.declared.Entry.{Entry}
 use Rattle.refusal.specs.Outcome.{refusedAt}
 use Rattle.problem.specs.Problem.{fileProblem, toldOfFiling}
@@ -18,10 +18,10 @@ use Rattle.checker.proofs.filing.on_entries.Tie as tie
 
 module _ (s ts : List ℕ) (t : List Entry) where
   too-long : (length ts ≡ 8192 → ⊥) → leftOf (lent ts t) (refusedAt 0 1) ≡ fileIn s (lent ts t)
-  too-long h = sym (file-unsized s (lent ts t) (rw (ne-eqb (length ts) 8192 h)))
+  too-long h = sym (file-unsized backToBack s (lent ts t) (rw (ne-eqb (length ts) 8192 h)))
 
   long-enough : length ts ≡ 8192 → length t ≡ 128 → (let x = fileProblem s in leftOf (imageOf (x .variables) (x .lines)) (x .told) ≡ fileIn s (lent ts t))
-  long-enough e k = sym (file-sized s (lent ts t) (rw (eq-eqb (length ts) 8192 e, eq-eqb (length t) 128 k)))
+  long-enough e k = sym (file-sized backToBack s (lent ts t) (rw (eq-eqb (length ts) 8192 e, eq-eqb (length t) 128 k)))
 
 unfit-requires : tie.Need-unfit-requires
 unfit-requires c κs = search needs

@@ -10,11 +10,11 @@ use Rattle.refusal.specs.TestsLaws.{nothing-found}
 use Rattle.refusal.specs.declared.Objection.{Objection}
 use Rattle.configuration.specs.Configuration.{Line, isPolynomial}
 use Rattle.configuration.specs.Made.{Made}
-use Rattle.memory.specs.Memory.{Memory, memoryOf, standingOf}
+use Rattle.memory.specs.Memory.{Memory, memoryOf, standingOf, backToBack}
 use Rattle.calculus.specs.Calculus.{operandTests, step, directStep}
 use Rattle.calculus.specs.CalculusLaws.{operands-passed}
 use Rattle.step.specs.SteppingLaws.{polynomial-operand}
-use Rattle.checker.specs.Checker.{Left, leftOf, leftBy, stepped, stepIn, toldOfStep}
+use Rattle.checker.specs.Checker.{Left, leftOf, stepped, leftBy, stepUnder, stepIn, toldOfStep}
 use Rattle.checker.specs.declared.Stepped.{Stepped}
 use Rattle.checker.proofs.Outcomes.{admitted-as, well}
 use Rattle.checker.proofs.stepping.on_entries.Statement.{statement}
@@ -41,16 +41,16 @@ abbrev refusal : tie.Start → Stepped → Left (Unit {0})
 refusal s k = leftOf (memoryOf (k .head) (now (s .args .terms)) (s .args .entries)) (toldOfStep (k .answer))
 
 -- what is found against the memory, and then against the operands
-found : (c : tie.After-object) → (let s = c .before .before .before .before .before in leftBy (lent s) (objected (c .object .result) (made s (direct s))) ≡ answer s)
-unfolding stepIn
-found c = let s = c .before .before .before .before .before in ap (λ (o : Outcome (Made (Unit {0}))). leftBy (lent s) o) (admitted-as (lent s) (c .object .result) (c .object .ensures) (made s (direct s)))
+found : (c : tie.After-object) → (let s = c .before .before .before .before .before in leftBy backToBack (lent s) (objected (c .object .result) (made s (direct s))) ≡ answer s)
+unfolding stepUnder
+found c = let s = c .before .before .before .before .before in ap (λ (o : Outcome (Made (Unit {0}))). leftBy backToBack (lent s) o) (admitted-as (lent s) (c .object .result) (c .object .ensures) (made s (direct s)))
 
-found-next : (c : tie.After-misfit) → (let s = c .before .before .before .before .before .before .before .before in leftBy (lent s) (made s (objected (c .misfit .result) (step-on s))) ≡ answer s)
+found-next : (c : tie.After-misfit) → (let s = c .before .before .before .before .before .before .before .before in leftBy backToBack (lent s) (made s (objected (c .misfit .result) (step-on s))) ≡ answer s)
 unfolding directStep
 found-next c =
     let s = c .before .before .before .before .before .before .before .before in
-    ap (λ (o : Outcome (List Line)). leftBy (lent s) (made s o)) (c .misfit .ensures (step-on s))
-    ∙ ap (λ (o : Objection). leftBy (lent s) (objected o (made s (direct s)))) (sym (c .before .enum-told .given .1))
+    ap (λ (o : Outcome (List Line)). leftBy backToBack (lent s) (made s o)) (c .misfit .ensures (step-on s))
+    ∙ ap (λ (o : Objection). leftBy backToBack (lent s) (objected o (made s (direct s)))) (sym (c .before .enum-told .given .1))
     ∙ found (c .before .before .before)
 
 -- where nothing is found
@@ -75,7 +75,7 @@ same-length c = search needs
 returns : tie.Need-returns
 returns c =
     let s = c .before .before .before .before .before .before .before .before .before in
-    ap (refusal s) (c .refused .ensures) ∙ ap (λ (o : Objection). leftBy (lent s) (objected o (made s (direct s)))) (sym (c .before .before .reason .given .1)) ∙ found (c .before .before .before .before)
+    ap (refusal s) (c .refused .ensures) ∙ ap (λ (o : Objection). leftBy backToBack (lent s) (objected o (made s (direct s)))) (sym (c .before .before .reason .given .1)) ∙ found (c .before .before .before .before)
 
 enum-told : tie.Need-enum-told
 enum-told c = search needs
@@ -95,7 +95,7 @@ same-length-2 c = search needs
 returns-2 : tie.Need-returns-2
 returns-2 c =
     let s = c .before .before .before .before .before .before .before .before .before .before .before .before in
-    ap (refusal s) (c .refused2 .ensures) ∙ ap (λ (o : Objection). leftBy (lent s) (made s (objected o (step-on s)))) (sym (c .before .before .reason2 .given .1))
+    ap (refusal s) (c .refused2 .ensures) ∙ ap (λ (o : Objection). leftBy backToBack (lent s) (made s (objected o (step-on s)))) (sym (c .before .before .reason2 .given .1))
     ∙ found-next (c .before .before .before .before)
 
 enum-told-2 : tie.Need-enum-told-2
@@ -116,9 +116,9 @@ returns-3 : tie.Need-returns-3
 returns-3 c =
     let s = c .before .before .before .before .before .before .before .before .before .before .before .before .before .before in
     let k = c .before .before .taken in
-    let e : leftOf (memoryOf (k .result .stepped .head) (k .last .1 .0) (k .result .entries)) (toldOfStep (k .result .stepped .answer)) ≡ leftBy (lent s) (made s (step-on s)) =
+    let e : leftOf (memoryOf (k .result .stepped .head) (k .last .1 .0) (k .result .entries)) (toldOfStep (k .result .stepped .answer)) ≡ leftBy backToBack (lent s) (made s (step-on s)) =
     rw (toZ-ofZ (s .fits .amount)) at (k .ensures) in
-    e ∙ ap (λ (o : Objection). leftBy (lent s) (made s (objected o (step-on s)))) (sym (c .before .before .before .before .enum-told2 .given .1)) ∙ found-next (c .before .before .before .before .before .before)
+    e ∙ ap (λ (o : Objection). leftBy backToBack (lent s) (made s (objected o (step-on s)))) (sym (c .before .before .before .before .enum-told2 .given .1)) ∙ found-next (c .before .before .before .before .before .before)
 
 pub on-entries-spec : {M : Type 1} → statement M
 on-entries-spec =

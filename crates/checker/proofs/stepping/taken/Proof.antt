@@ -1,7 +1,9 @@
 -- `taken` meets its contract: the lines are read, the step is taken on them, and they are written back where it is.
 use mathlib.Core.Path.{_≡_, sym, ap, subst, _∙_}
 use mathlib.Core.List.{List}
+use Prim.Native.Nat.{ℕ, _≤_}
 use lib.Dec.{T}
+use lib.ListN.{drop}
 use mir.Facts.{toZ-ofZ}
 use denote.Ref.{now}
 use borrow.Author.Needs.{needs}
@@ -9,8 +11,10 @@ use Rattle.refusal.specs.Outcome.{Outcome, Reached, after, stopOf}
 use Rattle.configuration.specs.Configuration.{Line, weightsFit}
 use Rattle.calculus.specs.Calculus.{step}
 use Rattle.table.specs.Rows.{linesOf}
-use Rattle.memory.specs.Memory.{Memory, memoryOf}
-use Rattle.memory.specs.MemoryLaws.{well-formed, well-parts}
+use Rattle.memory.specs.Memory.{Memory, memoryOf, backToBack}
+use Rattle.memory.specs.Places.{zeros}
+use Rattle.memory.specs.LayoutLaws.{well-parts}
+use Rattle.memory.specs.MemoryLaws.{well-formed}
 use Rattle.checker.specs.Checker.{leftOf, toldOfStep}
 use Rattle.checker.specs.declared.Stepped.{Stepped}
 use Rattle.checker.proofs.Outcomes.{step-refused, step-taken}
@@ -67,7 +71,7 @@ step-requires : tie.Need-step-requires
 step-requires c κs =
     let s = c .before .before .before .before .before .before .before .before .before .before .before .before .before .before .before .before .before .before in
     let o = c .before .before .before .before .before .before .before .before .«open» in
-    (o .ensures .1, subst (λ (L : List Line). T (weightsFit L)) (sym (o .ensures .0)) (well-parts (lent s) (s .pre .0) .weights), s .pre .1, s .pre .2)
+    (o .ensures .1, subst (λ (L : List Line). T (weightsFit L)) (sym (o .ensures .0)) (well-parts backToBack (lent s) (s .pre .0) .weights), s .pre .1, s .pre .2)
 
 enum-known-objection : tie.Need-enum-known-objection
 enum-known-objection c = search needs
@@ -87,6 +91,9 @@ returns c =
 enum-told : tie.Need-enum-told
 enum-told c = search needs
 
+used-by-requires : tie.Need-used-by-requires
+used-by-requires c κs = search needs
+
 slice-aggregate-close : tie.Need-slice-aggregate-close
 slice-aggregate-close c = search needs
 
@@ -101,9 +108,14 @@ slice-aggregate-close-4 c = search needs
 
 close-requires : tie.Need-close-requires
 close-requires c κs =
-    let s = c .before .before .before .before .before .before .before .before .before .before .before .before .before .before .before .before .before .before .before .before .before .before .before .before .before .before .before .before .before .before in
-    let q = well-formed (lent s) (s .pre .0) in
-    (c .before .before .before .before .before .before .before .before .before .before .before .step .ensures .1, q .terms-length, q .rows)
+    let s = c .before .before .before .before .before .before .before .before .before .before .before .before .before .before .before .before .before .before .before .before .before .before .before .before .before .before .before .before .before .before .before in
+    let u = c .before .before .before .before .before .used-by in
+    let q = well-formed (lent s) (s .pre .0) in (
+      c .before .before .before .before .before .before .before .before .before .before .before .before .step .ensures .1,
+      q .terms-length,
+      subst (λ (n : ℕ). n ≤ 8192) (sym (u .ensures)) (q .used),
+      subst (λ (n : ℕ). T (zeros (drop n (now (s .args .terms))))) (sym (u .ensures)) (q .rest),
+    )
 
 cast-lines : tie.Need-cast-lines
 cast-lines c = search needs
@@ -113,8 +125,8 @@ same-length-2 c = search needs
 
 returns-2 : tie.Need-returns-2
 returns-2 c =
-    let s = c .before .before .before .before .before .before .before .before .before .before .before .before .before .before .before .before .before .before .before .before .before .before .before .before .before .before .before .before .before .before .before .before .before .before in
-    step-taken (lent s) (step-on s) _ _ (c .before .before .before .before .before .before .before .before .before .before .before .before .before .before .before .before .before .before .before .before .before .before .before .before .«open» .ensures .0) _ (made (c .before .before .before .before .before .before .before .before .before .before .before .before .before .before .before)) (c .before .before .before .before .before .before .before .before .before .enum-told .given .1) _ (c .before .before .before .close .ensures (s .args .head .variables))
+    let s = c .before .before .before .before .before .before .before .before .before .before .before .before .before .before .before .before .before .before .before .before .before .before .before .before .before .before .before .before .before .before .before .before .before .before .before in
+    step-taken (lent s) (step-on s) _ _ (c .before .before .before .before .before .before .before .before .before .before .before .before .before .before .before .before .before .before .before .before .before .before .before .before .before .«open» .ensures .0) _ (made (c .before .before .before .before .before .before .before .before .before .before .before .before .before .before .before .before)) (c .before .before .before .before .before .before .before .before .before .before .enum-told .given .1) _ (c .before .before .before .close .ensures (s .args .head .variables))
 
 pub taken-spec : {M : Type 1} → statement M
 taken-spec =
@@ -136,6 +148,7 @@ taken-spec =
     same-length
     returns
     enum-told
+    used-by-requires
     slice-aggregate-close
     slice-aggregate-close-2
     slice-aggregate-close-3

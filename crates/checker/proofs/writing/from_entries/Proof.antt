@@ -11,7 +11,7 @@ use Rattle.refusal.specs.OutcomeLaws.{unless-fails, unless-passes}
 use Rattle.refusal.specs.declared.Objection.{Objection}
 use Rattle.memory.specs.Memory.{Memory, memoryOf, standingOf}
 use Rattle.listing.specs.Listing.{textOf}
-use Rattle.checker.specs.Checker.{Written, writtenBy, fitting, writeIn}
+use Rattle.checker.specs.Checker.{Written, writtenBy, fitting, writeUnder, writeIn}
 use Rattle.checker.proofs.Outcomes.{admitted-as, well}
 use Rattle.checker.proofs.writing.from_entries.Statement.{statement}
 use Rattle.checker.proofs.writing.from_entries.Tie as tie
@@ -30,7 +30,7 @@ abbrev out : tie.Start → Outcome (List ℕ) → Written
 out s o = writtenBy (now (s .args .area)) o
 
 found : (c : tie.After-object) → (let s = c .before .before .before in out s (objected (c .object .result) (asked s)) ≡ writeIn (s .args .number) (lent s) (now (s .args .area)))
-unfolding writeIn
+unfolding writeUnder
 found c = let s = c .before .before .before in ap (λ (o : Outcome (List ℕ)). out s o) (admitted-as (lent s) (c .object .result) (c .object .ensures) (asked s))
 
 -- where nothing is found against the memory

@@ -13,8 +13,8 @@ use Rattle.refusal.specs.Outcome.{answered, refusedAt}
 use Rattle.configuration.specs.Configuration.{Line}
 use Rattle.table.specs.Rows.{Table, linesOf, Fits}
 use Rattle.table.specs.RowsLaws.{length-lines}
-use Rattle.memory.specs.Memory.{Memory, memoryOf, standingOf, wellFormed}
-use Rattle.memory.specs.MemoryLaws.{well-image}
+use Rattle.memory.specs.Memory.{Memory, memoryOf, standingOf, wellFormed, backToBack}
+use Rattle.memory.specs.LayoutLaws.{well-image}
 use Rattle.listing.specs.Listing.{textOf}
 use Rattle.listing.specs.Writing.{overwritten}
 use Rattle.listing.proofs.Writes.{written-front}
@@ -31,7 +31,7 @@ text-of s = textOf (s .args .number) (s .args .head .variables) (standingOf (len
 
 -- a table of the lines of a memory has as many lines
 same-lines : (m : Memory) (t : Table) → T (wellFormed m) → linesOf t ≡ standingOf m → Fits 128 t → t .lines ≡ m .lines
-same-lines m t h e q = sym (length-lines q) ∙ ap length e ∙ sym (ap (λ (k : Memory). k .lines) (well-image m h))
+same-lines m t h e q = sym (length-lines q) ∙ ap length e ∙ sym (ap (λ (k : Memory). k .lines) (well-image backToBack m h))
 
 -- a text at the front is read back
 front : (z last text : List ℕ) (size : ℕ) → last ≡ overwritten z 0 text → size ≡ length text → take (size - 0) last ≡ text

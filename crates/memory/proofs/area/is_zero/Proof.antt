@@ -6,7 +6,7 @@ use native.Mathlib.Omega.{arith}
 use lib.Dec.{eqb}
 use lib.ListN.{length, getD, drop}
 use borrow.Author.Needs.{needs}
-use Rattle.memory.specs.Layout.{zeros}
+use Rattle.memory.specs.Places.{zeros}
 use Rattle.configuration.proofs.Tests.{one-joined, all-joined}
 use Rattle.memory.proofs.Forms.{joined-zero}
 use Rattle.memory.proofs.area.is_zero.Statement.{statement}

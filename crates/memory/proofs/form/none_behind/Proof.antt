@@ -5,7 +5,7 @@ use native.Mathlib.Omega.{arith}
 use lib.ListN.{drop}
 use borrow.Author.Needs.{needs}
 use borrow.Author.Tests.{not-true, not-false}
-use Rattle.memory.specs.Layout.{allUnused}
+use Rattle.memory.specs.Places.{allUnused}
 use Rattle.memory.proofs.Forms.{entry-used, entry-unused, entries-end}
 use Rattle.memory.proofs.form.none_behind.Statement.{statement}
 use Rattle.memory.proofs.form.none_behind.Tie as tie

@@ -1,10 +1,11 @@
--- `open` meets its contract. The invariant: the table holds the first lines.
-use mathlib.Core.Path.{_≡_, refl, sym, ap₂, _∙_}
+-- `open` meets its contract. The invariant: the table holds the first lines, and the terms of the next begin at `start`.
+use mathlib.Core.Path.{_≡_, refl, sym, ap, ap₂, _∙_}
 use mathlib.Core.List.{List}
-use Prim.Native.Nat.{ℕ, suc, _-_, _*_, _≤_, _<_}
+use Prim.Native.Nat.{ℕ, suc, _+_, _-_, _≤_, _<_}
+use native.Mathlib.Numerals.{add-one}
 use native.Mathlib.Omega.{arith}
 use lib.IntN.{ℤ}
-use lib.ListN.{length, getD, take, drop, length-take}
+use lib.ListN.{length, getD, take, drop}
 use lib.Seq.{take-all}
 use mir.Syntax.{w64}
 use mir.Val.{toZ, ofZ}
@@ -12,25 +13,28 @@ use denote.Ref.{now}
 use borrow.Author.Needs.{needs}
 use Rattle.configuration.specs.Configuration.{Line, line}
 use Rattle.configuration.specs.ConfigurationLaws.{fit-ordered}
+use Rattle.configuration.specs.LineLaws.{fits-short}
 use Rattle.configuration.proofs.Weights.{read-back}
 use Rattle.table.specs.Rows.{Table, linesOf, Fits}
 use Rattle.table.specs.RowsLaws.{of-capacity, to-capacity}
 use Rattle.table.proofs.Searches.{none}
 use Rattle.memory.specs.declared.Entry.{Entry}
 use Rattle.memory.specs.Memory.{Memory, memoryOf, readLines, unused, standingOf}
-use Rattle.memory.specs.MemoryLaws.{length-read, Formed, well-formed}
-use Rattle.memory.proofs.Forms.{cleared-short, line-read}
-use Rattle.memory.proofs.Openings.{fresh-table, next-ordered, next-lines, next-held}
+use Rattle.memory.specs.MemoryLaws.{used-next, length-read, Formed, well-formed}
+use Rattle.memory.specs.Places.{usedBy}
+use Rattle.memory.proofs.Forms.{termsRead, line-read, read-within}
+use Rattle.memory.proofs.Openings.{fresh-table, next-ordered, next-short, next-lines, next-held}
 use Rattle.memory.proofs.open.open.Statement.{statement}
 use Rattle.memory.proofs.open.open.Tie as tie
 
 abbrev Inv-loop : tie.InvT-loop
-Inv-loop terms order₀ rows₀ weights₀ counts₀ entries lines held₀ order rows weights counts held =
+Inv-loop terms order₀ rows₀ weights₀ counts₀ entries lines held₀ start₀ order rows weights counts held start =
     (held ≤ lines) × Fits 128 (record { lines = held; order = order; terms = rows; weights = weights; counts = counts })
     × (linesOf (record { lines = held; order = order; terms = rows; weights = weights; counts = counts }) ≡ take held (readLines lines terms entries))
+    × (start ≡ usedBy (take held entries))
 
 abbrev μ-loop : tie.MeasureT-loop
-μ-loop terms order₀ rows₀ weights₀ counts₀ entries lines held₀ order rows weights counts held = lines - held
+μ-loop terms order₀ rows₀ weights₀ counts₀ entries lines held₀ start₀ order rows weights counts held start = lines - held
 
 abbrev lent : tie.Start Inv-loop μ-loop → Memory
 lent s = memoryOf (s .args .head) (now (s .args .terms)) (s .args .t3)
@@ -66,26 +70,37 @@ in-lines c =
     let q = formed (start c) in
     omega (arith, c .loop-test .taken, length-read (a .head .lines) (now (a .terms)) (a .t3) (omega (arith, q .room, q .table-length)))
 
-short : (c : In) → entry c .count ≤ 64
-short c = cleared-short (c .before .loop .held) (now (start c .args .terms)) (start c .args .t3) (formed (start c) .rows) (in-table c)
+-- where its terms are
+within : (c : In) → c .before .loop .start + entry c .count ≤ 8192
+within c = omega (arith, c .before .loop .inv .3, read-within (c .before .loop .held) 8192 (start c .args .t3) (in-table c) (formed (start c) .used))
+
+behind : (c : In) → c .before .loop .start + entry c .count ≡ usedBy (take (suc (c .before .loop .held)) (start c .args .t3))
+behind c =
+    let h = c .before .loop .held in
+    let t = start c .args .t3 in
+    ap (λ (p : ℕ). p + entry c .count) (c .before .loop .inv .3) ∙ used-next h t (in-table c) ∙ ap (λ (j : ℕ). usedBy (take j t)) (add-one h)
+
+read : (c : In) → take (entry c .count) (drop (c .before .loop .start) (now (start c .args .terms))) ≡ termsRead (now (start c .args .terms)) (start c .args .t3) (c .before .loop .held)
+read c = ap (λ (p : ℕ). take (entry c .count) (drop p (now (start c .args .terms)))) (c .before .loop .inv .3)
 
 -- the polynomial f and the weight u that are read
-here : (c : In) (f : List ℕ) (u : ℤ) → f ≡ take (entry c .count) (drop (64 * c .before .loop .held) (now (start c .args .terms))) → u ≡ entry c .weight
+here : (c : In) (f : List ℕ) (u : ℤ) → f ≡ take (entry c .count) (drop (c .before .loop .start) (now (start c .args .terms))) → u ≡ entry c .weight
     → getD (standing c) (c .before .loop .held) none ≡ line f u
 here c f u e d =
     let a = start c .args in
     let q = formed (start c) in
     line-read (a .head .lines) (c .before .loop .held) (now (a .terms)) (a .t3) none (c .loop-test .taken) (omega (arith, q .room, q .table-length))
-    ∙ ap₂ line (sym e) (sym d)
+    ∙ ap₂ line (sym (e ∙ read c)) (sym d)
 
 cast-lines : tie.Need-cast-lines Inv-loop μ-loop
 cast-lines c = search needs
 
 loop-holds : tie.Need-loop-holds Inv-loop μ-loop
+unfolding usedBy
 loop-holds c =
     let s = c .before .before .before .before .before in
     let a = s .args in
-    (omega arith, fresh-table (now (a .order)) (now (a .rows)) (now (a .weights)) (now (a .counts)) (s .pre .1) (s .pre .2) (s .pre .3) (s .pre .4), refl)
+    (omega arith, fresh-table (now (a .order)) (now (a .rows)) (now (a .weights)) (now (a .counts)) (s .pre .1) (s .pre .2) (s .pre .3) (s .pre .4), refl, refl)
 
 mul-entry : tie.Need-mul-entry Inv-loop μ-loop
 mul-entry c = search needs
@@ -96,38 +111,37 @@ array-copy-out-entry c = let q = formed (start c) in omega (arith, c .loop-test 
 cast-count : tie.Need-cast-count Inv-loop μ-loop
 cast-count c = search needs
 
-row-requires : tie.Need-row-requires Inv-loop μ-loop
-row-requires c κs =
-    let k = c .before .before .before in
-    let q = formed (start k) in
-    omega (arith, short k, k .loop-test .taken, q .room, q .terms-length)
+part-requires : tie.Need-part-requires Inv-loop μ-loop
+part-requires c κs = let k = c .before .before .before in omega (arith, within k, formed (start k) .terms-length)
 
 append-requires : tie.Need-append-requires Inv-loop μ-loop
 append-requires c κs =
     let k = c .before .before .before .before .before .before .before .before in
     let q = k .before .loop .inv in
-    let f = c .before .before .before .before .row .result .now in
-    let e = c .before .before .before .before .row .ensures in (
+    let f = c .before .before .before .before .part .result .now in
+    let x = here k f _ (c .before .before .before .before .part .ensures) (read-back (entry k .weight) (c .before .before .before .before .before .struct-told .given .0 .1)) in (
       of-capacity (q .1),
       omega (arith, k .loop-test .taken, formed (start k) .room, q .1 .counts-length),
-      rw e (omega (arith, short k, length-take (entry k .count) (drop (64 * k .before .loop .held) (now (start k .args .terms))))),
-      next-ordered (standing k) (table k) (q .2) (in-lines k) f (toZ w64 (ofZ w64 (entry k .weight))) (here k f _ e (read-back (entry k .weight) (c .before .before .before .before .before .struct-told .given .0 .1)))
-          (fit-ordered (start k .args .head .variables) (standing k) (formed (start k) .fit)),
+      next-short (standing k) (table k) (q .2) (in-lines k) f (toZ w64 (ofZ w64 (entry k .weight))) x (fits-short (start k .args .head .variables) (standing k) (formed (start k) .fit)),
+      next-ordered (standing k) (table k) (q .2) (in-lines k) f (toZ w64 (ofZ w64 (entry k .weight))) x (fit-ordered (start k .args .head .variables) (standing k) (formed (start k) .fit)),
     )
 
 -- the line that was put in
 read-line : (c : tie.After-slice-known6 Inv-loop μ-loop) → (let k = c .before .before .before .before .before .before .before .before .before .before .before .before .before .before .before .before in
-    getD (standing k) (k .before .loop .held) none ≡ line (c .before .before .before .before .before .before .before .before .before .before .before .before .row .result .now) (toZ w64 (ofZ w64 (entry k .weight))))
+    getD (standing k) (k .before .loop .held) none ≡ line (c .before .before .before .before .before .before .before .before .before .before .before .before .part .result .now) (toZ w64 (ofZ w64 (entry k .weight))))
 read-line c =
     let k = c .before .before .before .before .before .before .before .before .before .before .before .before .before .before .before .before in
-    here k (c .before .before .before .before .before .before .before .before .before .before .before .before .row .result .now) _ (c .before .before .before .before .before .before .before .before .before .before .before .before .row .ensures) (read-back (entry k .weight) (c .before .before .before .before .before .before .before .before .before .before .before .before .before .struct-told .given .0 .1))
+    here k (c .before .before .before .before .before .before .before .before .before .before .before .before .part .result .now) _ (c .before .before .before .before .before .before .before .before .before .before .before .before .part .ensures) (read-back (entry k .weight) (c .before .before .before .before .before .before .before .before .before .before .before .before .before .struct-told .given .0 .1))
 
 -- one line more
 advanced : (c : tie.After-slice-known6 Inv-loop μ-loop) → c .before .before .before .before .before .before .before .append .result ≡ suc (c .before .before .before .before .before .before .before .before .before .before .before .before .before .before .before .before .before .loop .held)
 advanced c =
     let k = c .before .before .before .before .before .before .before .before .before .before .before .before .before .before .before .before in
     let q = k .before .loop .inv in
-    next-lines (standing k) (table k) (q .2) (in-lines k) (c .before .before .before .before .before .before .before .before .before .before .before .before .row .result .now) _ (read-line c) _ (to-capacity (q .1) (c .before .before .before .before .before .before .before .append .ensures .1)) (c .before .before .before .before .before .before .before .append .ensures .0)
+    next-lines (standing k) (table k) (q .2) (in-lines k) (c .before .before .before .before .before .before .before .before .before .before .before .before .part .result .now) _ (read-line c) _ (to-capacity (q .1) (c .before .before .before .before .before .before .before .append .ensures .1)) (c .before .before .before .before .before .before .before .append .ensures .0)
+
+add-start : tie.Need-add-start Inv-loop μ-loop
+add-start c = let b = within (c .before .before .before .before .before .before .before .before .before .before .before .before .before .before .before .before) in search needs
 
 loop-less : tie.Need-loop-less Inv-loop μ-loop
 loop-less c = let k = c .before .before .before .before .before .before .before .before .before .before .before .before .before .before .before .before in omega (arith, k .loop-test .taken, advanced c)
@@ -138,7 +152,8 @@ loop-again c =
     let q = k .before .loop .inv in (
       omega (arith, k .loop-test .taken, advanced c),
       to-capacity (q .1) (c .before .before .before .before .before .before .before .append .ensures .1),
-      next-held (standing k) (table k) (q .2) (in-lines k) (c .before .before .before .before .before .before .before .before .before .before .before .before .row .result .now) _ (read-line c) _ (to-capacity (q .1) (c .before .before .before .before .before .before .before .append .ensures .1)) (c .before .before .before .before .before .before .before .append .ensures .0),
+      next-held (standing k) (table k) (q .2) (in-lines k) (c .before .before .before .before .before .before .before .before .before .before .before .before .part .result .now) _ (read-line c) _ (to-capacity (q .1) (c .before .before .before .before .before .before .before .append .ensures .1)) (c .before .before .before .before .before .before .before .append .ensures .0),
+      behind k ∙ ap (λ (j : ℕ). usedBy (take j (start k .args .t3))) (sym (advanced c)),
     )
 
 same-length : tie.Need-same-length Inv-loop μ-loop
@@ -172,8 +187,9 @@ open-spec =
     mul-entry
     array-copy-out-entry
     cast-count
-    row-requires
+    part-requires
     append-requires
+    add-start
     loop-less
     loop-again
     same-length

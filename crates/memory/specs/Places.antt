@@ -1,0 +1,24 @@
+-- The layout as code goes through it: the places that entries count, and what no line uses.
+use mathlib.Core.Bool.{Bool, true, _&&_}
+use mathlib.Core.List.{List, [], _∷_}
+use Prim.Native.Nat.{ℕ, _+_}
+use lib.Dec.{eqb}
+use Rattle.configuration.specs.Weight.{isZero}
+use Rattle.memory.specs.declared.Entry.{Entry}
+
+-- how many terms entries count together: the terms of the next line begin behind as many places
+unfoldable pub usedBy : List Entry → ℕ
+usedBy [] = 0
+usedBy (e ∷ t) = e .count + usedBy t
+
+unfoldable pub zeros : List ℕ → Bool
+zeros [] = true
+zeros (x ∷ l) = eqb x 0 && zeros l
+
+-- no entry is used
+abbrev pub isUnused : Entry → Bool
+isUnused e = isZero (e .weight) && eqb (e .count) 0
+
+unfoldable pub allUnused : List Entry → Bool
+allUnused [] = true
+allUnused (e ∷ t) = isUnused e && allUnused t
