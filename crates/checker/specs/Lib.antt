@@ -6,5 +6,6 @@ pub mod StepTests
 pub mod Refused
 pub mod OneListing
 pub mod CostRule
+pub mod Layouts
 pub mod LeftForm
 pub mod DeskTable

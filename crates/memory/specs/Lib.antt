@@ -1,4 +1,6 @@
 pub mod Memory
+pub mod OldLayout
 pub mod Places
 pub mod LayoutLaws
 pub mod MemoryLaws
+pub mod OldLayoutLaws
