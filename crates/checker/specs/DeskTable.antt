@@ -12,7 +12,7 @@ use Rattle.mask.specs.Mask.{unions}
 use Rattle.polynomial.specs.Polynomial.{ZERO, ONE, factors, clauseOf, orderOf}
 use Rattle.configuration.specs.Configuration.{Line, line, total, fold, add, addAll, negated, below, lineFits, linesFit, weightsFit, anyNegative}
 use Rattle.configuration.specs.Limits.{within}
-use Rattle.memory.specs.Memory.{Memory, imageOf, readLines, termsOf, entriesOf, alike}
+use Rattle.memory.specs.Memory.{Memory, imageOf, readLines, allTerms, entriesOf, alike}
 use Rattle.calculus.specs.Calculus.{covers, allShort, step, directStep}
 use Rattle.calculus.specs.declared.Rule.the-variants.{Sum, Prod}
 use Rattle.calculus.specs.declared.Mode.the-variants.{Plain, Signed}
@@ -96,7 +96,7 @@ pub record DeskTable : Type 0 where
 
 -- ---- every row holds: all of it is computed
 pub desk-table : DeskTable
-unfolding factors normalBy toggleBy unions before ones below sorted orderOf linesFit lineFits weightsFit anyNegative total add fold addAll negated within covers allShort step directStep littleEndian walk onRecord degreeIn degreeMax checkDerivation readLines termsOf entriesOf alike stepUnder checkUnder
+unfolding factors normalBy toggleBy unions before ones below sorted orderOf linesFit lineFits weightsFit anyNegative total add fold addAll negated within covers allShort step directStep littleEndian walk onRecord degreeIn degreeMax checkDerivation readLines allTerms entriesOf alike stepUnder checkUnder
 desk-table = record {
   row1 = refl;
   row2 = refl;

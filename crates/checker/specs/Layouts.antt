@@ -55,7 +55,7 @@ memoryUnder l (calling (checking s)) m = checkUnder l s m .memory
 memoryUnder l (writing i area) m = m
 
 -- a memory is well formed in a layout, and holds the lines L over n variables
-pub record Holds (l : Layout) (n : ℕ) (L : List Line) (m : Memory) : Type 0 where
+pub record HoldsIn (l : Layout) (n : ℕ) (L : List Line) (m : Memory) : Type 0 where
   pub well : T (wellFormedUnder l m)
   pub variables : m .variables ≡ n
   pub lines : standingUnder l m ≡ L
@@ -64,8 +64,8 @@ pub record Holds (l : Layout) (n : ℕ) (L : List Line) (m : Memory) : Type 0 wh
 pub record HoldOne (a b : Layout) (m k : Memory) : Type 0 where
   pub variables : ℕ
   pub lines : List Line
-  pub first : Holds a variables lines m
-  pub second : Holds b variables lines k
+  pub first : HoldsIn a variables lines m
+  pub second : HoldsIn b variables lines k
 
 -- an operation answers alike on both, and what it leaves holds one configuration again
 abbrev pub Alike : Layout → Layout → Memory → Memory → Operation → Type 0
@@ -77,7 +77,7 @@ AllAlike a b m k (o ∷ os) = Alike a b m k o × AllAlike a b (memoryUnder a o m
 
 pub record OneStanding (a b : Layout) : Type 0 where
   -- each configuration is held by its image in either layout: no line, no term and no order is lost
-  pub images : (n : ℕ) (L : List Line) → T (isConfiguration n L) → Holds a n L (imageUnder a n L) × Holds b n L (imageUnder b n L)
+  pub images : (n : ℕ) (L : List Line) → T (isConfiguration n L) → HoldsIn a n L (imageUnder a n L) × HoldsIn b n L (imageUnder b n L)
   -- two filings of the same bytes, in areas of the right lengths that hold anything
   pub filings : (s : List ℕ) (m k : Memory) → T (sized m) → T (sized k) → Alike a b m k (filing s)
   -- all operations on two memories that hold one configuration
@@ -85,10 +85,10 @@ pub record OneStanding (a b : Layout) : Type 0 where
 
 -- ---- in one layout
 module _ {l : Layout} (q : Faithful l) where
-  image-held : (n : ℕ) (L : List Line) → T (isConfiguration n L) → Holds l n L (imageUnder l n L)
+  image-held : (n : ℕ) (L : List Line) → T (isConfiguration n L) → HoldsIn l n L (imageUnder l n L)
   image-held n L h = record { well = image-well l q n L h; variables = refl; lines = q .back n L h }
 
-  module _ {n : ℕ} {L : List Line} {m : Memory} (h : Holds l n L m) where
+  module _ {n : ℕ} {L : List Line} {m : Memory} (h : HoldsIn l n L m) where
     held-configuration : T (isConfiguration n L)
     held-configuration =
         subst (λ (i : ℕ). T (isConfiguration i L)) (h .variables) (subst (λ (M : List Line). T (isConfiguration (m .variables) M)) (h .lines) (well-configuration l m (h .well)))
@@ -155,15 +155,15 @@ module _ {a b : Layout} (p : Faithful a) (q : Faithful b) where
         rw (check-well p s m (h .first .well), check-well q s k (h .second .well))
         (core-alike (λ i M. accepted (checkDerivation s i M)) (rw (check-variables s n L) (check-configuration s n L is-configuration)))
 
-    alike : (o : Operation) → Alike a b m k o
-    alike (filing s) = filings-alike s m k (well-sized a p m (h .first .well)) (well-sized b q k (h .second .well))
-    alike (calling (stepping r d f g w)) = step-alike r d f g w
-    alike (calling (checking s)) = check-alike s
-    alike (writing i area) = (write-held p (h .first) i area ∙ sym (write-held q (h .second) i area), h)
+    operation-alike : (o : Operation) → Alike a b m k o
+    operation-alike (filing s) = filings-alike s m k (well-sized a p m (h .first .well)) (well-sized b q k (h .second .well))
+    operation-alike (calling (stepping r d f g w)) = step-alike r d f g w
+    operation-alike (calling (checking s)) = check-alike s
+    operation-alike (writing i area) = (write-held p (h .first) i area ∙ sym (write-held q (h .second) i area), h)
 
   all-alike : (m k : Memory) → HoldOne a b m k → (os : List Operation) → AllAlike a b m k os
   all-alike m k h [] = tt
-  all-alike m k h (o ∷ os) = let e : Alike a b m k o = alike m k h o in (e, all-alike (memoryUnder a o m) (memoryUnder b o k) (e .1) os)
+  all-alike m k h (o ∷ os) = let e : Alike a b m k o = operation-alike m k h o in (e, all-alike (memoryUnder a o m) (memoryUnder b o k) (e .1) os)
 
   one-standing : OneStanding a b
   one-standing = record {

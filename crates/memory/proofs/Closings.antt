@@ -12,7 +12,7 @@ use Rattle.configuration.specs.Configuration.{Line, line}
 use Rattle.configuration.specs.LineLaws.{Short, every-take}
 use Rattle.table.specs.Rows.{Table, rowOf, linesAt, linesOf, Each, Entered, Fits}
 use Rattle.memory.specs.declared.Entry.{Entry}
-use Rattle.memory.specs.Memory.{Memory, termsOf, entriesOf, unused, imageOf}
+use Rattle.memory.specs.Memory.{Memory, allTerms, entriesOf, unused, imageOf}
 use Rattle.memory.specs.LayoutLaws.{length-entries}
 use Rattle.memory.specs.MemoryLaws.{zeros-replicate, length-terms}
 use Rattle.memory.specs.Places.{zeros}
@@ -25,12 +25,12 @@ pub table-short : {c : ℕ} {t : Table} → Fits c t → Short (linesOf t)
 table-short {c} {t} q = each-short t (take (t .lines) (t .order)) (q .entered)
 
 -- ---- no line is written yet
-pub no-terms : (N : List Line) (l : List ℕ) → l ≡ termsOf (take 0 N) ++ drop 0 l
-unfolding termsOf
+pub no-terms : (N : List Line) (l : List ℕ) → l ≡ allTerms (take 0 N) ++ drop 0 l
+unfolding allTerms
 no-terms N l = refl
 
-pub no-end : (N : List Line) → 0 ≡ length (termsOf (take 0 N))
-unfolding termsOf
+pub no-end : (N : List Line) → 0 ≡ length (allTerms (take 0 N))
+unfolding allTerms
 no-end N = refl
 
 pub no-lines : (N : List Line) → replicate 128 unused ≡ entriesOf (take 0 N) ++ replicate (128 - 0) unused
@@ -38,10 +38,10 @@ unfolding entriesOf
 no-lines N = refl
 
 -- ---- one line more
-terms-more : (L : List Line) (f : List ℕ) (w : ℤ) → termsOf (L ++ line f w ∷ []) ≡ termsOf L ++ f
-unfolding termsOf
+terms-more : (L : List Line) (f : List ℕ) (w : ℤ) → allTerms (L ++ line f w ∷ []) ≡ allTerms L ++ f
+unfolding allTerms
 terms-more [] f w = append-nil f
-terms-more (line g u ∷ L) f w = ap (λ (x : List ℕ). g ++ x) (terms-more L f w) ∙ sym (append-assoc g (termsOf L) f)
+terms-more (line g u ∷ L) f w = ap (λ (x : List ℕ). g ++ x) (terms-more L f w) ∙ sym (append-assoc g (allTerms L) f)
 
 entries-more : (L : List Line) (f : List ℕ) (w : ℤ) → entriesOf (L ++ line f w ∷ []) ≡ entriesOf L ++ record { weight = w; count = length f } ∷ []
 unfolding entriesOf
@@ -53,27 +53,27 @@ module _ (N : List Line) (i : ℕ) (b : i < length N) where
   M = take i N
 
   -- the lines that are written leave room for one of 64 terms
-  pub end-within : Short N → length N ≤ 128 → length (termsOf M) + 64 ≤ 8192
+  pub end-within : Short N → length N ≤ 128 → length (allTerms M) + 64 ≤ 8192
   end-within s r = omega (arith, length-terms M (every-take (λ f. length f ≤ 64) i N s), length-take-le i N (omega arith))
 
   module _ (f : List ℕ) (w : ℤ) (d : Line) (x : getD N i d ≡ line f w) where
     more : take (i + 1) N ≡ M ++ line f w ∷ []
     more = ap (λ (k : ℕ). take k N) (add-one i) ∙ take-suc N i d b ∙ ap (λ (y : Line). M ++ y ∷ []) x
 
-    more-terms : termsOf (take (i + 1) N) ≡ termsOf M ++ f
-    more-terms = ap termsOf more ∙ terms-more M f w
+    more-terms : allTerms (take (i + 1) N) ≡ allTerms M ++ f
+    more-terms = ap allTerms more ∙ terms-more M f w
 
-    pub next-end : length (termsOf M) + length f ≡ length (termsOf (take (i + 1) N))
-    next-end = sym (ap length more-terms ∙ length-append (termsOf M) f)
+    pub next-end : length (allTerms M) + length f ≡ length (allTerms (take (i + 1) N))
+    next-end = sym (ap length more-terms ∙ length-append (allTerms M) f)
 
-    pub next-terms : (l : List ℕ) (e : ℕ) → e ≡ length (termsOf M) → (let m = termsOf M ++ drop e l in
-        take e m ++ (f ++ drop (e + length f) m) ≡ termsOf (take (i + 1) N) ++ drop (e + length f) l)
+    pub next-terms : (l : List ℕ) (e : ℕ) → e ≡ length (allTerms M) → (let m = allTerms M ++ drop e l in
+        take e m ++ (f ++ drop (e + length f) m) ≡ allTerms (take (i + 1) N) ++ drop (e + length f) l)
     next-terms l e c =
-        let m : List ℕ = termsOf M ++ drop e l in
+        let m : List ℕ = allTerms M ++ drop e l in
         let y : drop (e + length f) m ≡ drop (e + length f) l =
-        sym (drop-drop (length f) e m) ∙ ap (drop (length f)) (drop-at (termsOf M) (drop e l) e (sym c)) ∙ drop-drop (length f) e l in
-        ap₂ (λ (p q : List ℕ). p ++ (f ++ q)) (take-at (termsOf M) (drop e l) e (sym c)) y
-        ∙ sym (append-assoc (termsOf M) f (drop (e + length f) l)) ∙ ap (λ (p : List ℕ). p ++ drop (e + length f) l) (sym more-terms)
+        sym (drop-drop (length f) e m) ∙ ap (drop (length f)) (drop-at (allTerms M) (drop e l) e (sym c)) ∙ drop-drop (length f) e l in
+        ap₂ (λ (p q : List ℕ). p ++ (f ++ q)) (take-at (allTerms M) (drop e l) e (sym c)) y
+        ∙ sym (append-assoc (allTerms M) f (drop (e + length f) l)) ∙ ap (λ (p : List ℕ). p ++ drop (e + length f) l) (sym more-terms)
 
     pub next-entries : i < 128
         → set (entriesOf M ++ replicate (128 - i) unused) i (record { weight = w; count = length f }) ≡ entriesOf (take (i + 1) N) ++ replicate (128 - (i + 1)) unused
@@ -123,10 +123,10 @@ module _ (x l : List ℕ) (u : ℕ) (n : length l ≡ 8192) (h : u ≤ 8192) (z 
         ∙ ap (λ (y : List ℕ). x ++ y) (replicate-append-replicate (u - e) (8192 - u) 0 ∙ ap (λ (k : ℕ). replicate k 0) t)
 
 -- ---- the whole
-pub written-back : (n lines : ℕ) (N : List Line) (l : List ℕ) (t : List Entry) (e : ℕ) → length N ≡ lines → length (termsOf N) ≡ e
-    → l ≡ termsOf N ++ replicate (8192 - e) 0 → t ≡ entriesOf N ++ replicate (128 - lines) unused
+pub written-back : (n lines : ℕ) (N : List Line) (l : List ℕ) (t : List Entry) (e : ℕ) → length N ≡ lines → length (allTerms N) ≡ e
+    → l ≡ allTerms N ++ replicate (8192 - e) 0 → t ≡ entriesOf N ++ replicate (128 - lines) unused
     → _≡_ {A = Memory} (record { variables = n; lines = lines; terms = l; table = t }) (imageOf n N)
 written-back n lines N l t e c d p q =
-    let a : l ≡ termsOf N ++ replicate (8192 - length (termsOf N)) 0 = p ∙ ap (λ (k : ℕ). termsOf N ++ replicate (8192 - k) 0) (sym d) in
+    let a : l ≡ allTerms N ++ replicate (8192 - length (allTerms N)) 0 = p ∙ ap (λ (k : ℕ). allTerms N ++ replicate (8192 - k) 0) (sym d) in
     let b : t ≡ entriesOf N ++ replicate (128 - length N) unused = q ∙ ap (λ (j : ℕ). entriesOf N ++ replicate (128 - j) unused) (sym c) in
     λ i. record { variables = n; lines = sym c i; terms = a i; table = b i }

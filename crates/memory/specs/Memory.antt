@@ -30,9 +30,9 @@ readLines zero ts t = []
 readLines (suc k) ts [] = []
 readLines (suc k) ts (e ∷ t) = line (take (e .count) ts) (e .weight) ∷ readLines k (drop (e .count) ts) t
 
-unfoldable pub termsOf : List Line → List ℕ
-termsOf [] = []
-termsOf (line f w ∷ L) = f ++ termsOf L
+unfoldable pub allTerms : List Line → List ℕ
+allTerms [] = []
+allTerms (line f w ∷ L) = f ++ allTerms L
 
 -- A layout is how lines are read from a term area, and what they fill of one from place 0 on. Code has one; document 01's first one is in OldLayout.antt, for a theorem alone.
 pub record Layout : Type 0 where
@@ -40,7 +40,7 @@ pub record Layout : Type 0 where
   pub laid : List Line → List ℕ
 
 abbrev pub backToBack : Layout
-backToBack = record { read = readLines; laid = termsOf }
+backToBack = record { read = readLines; laid = allTerms }
 
 unfoldable pub entriesOf : List Line → List Entry
 entriesOf [] = []

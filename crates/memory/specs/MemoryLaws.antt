@@ -14,29 +14,29 @@ use Rattle.configuration.specs.Weight.{isZero}
 use Rattle.configuration.specs.Configuration.{Line, line, linesFit, weightsFit, isConfiguration}
 use Rattle.configuration.specs.LineLaws.{Short, IsConfiguration, configuration-parts, parts-configuration, configuration-short}
 use Rattle.memory.specs.declared.Entry.{Entry}
-use Rattle.memory.specs.Memory.{Memory, readLines, termsOf, backToBack, entriesOf, unused, sameMemory, Faithful, standingOf, imageOf, wellFormed}
+use Rattle.memory.specs.Memory.{Memory, readLines, allTerms, backToBack, entriesOf, unused, sameMemory, Faithful, standingOf, imageOf, wellFormed}
 use Rattle.memory.specs.LayoutLaws.{memory-self, length-entries, well-image, well-parts}
 use Rattle.memory.specs.Places.{usedBy, zeros, isUnused, allUnused}
 
 -- ---- lines laid out and read back, whatever stands behind them
-read-laid : (L : List Line) (x : List ℕ) (y : List Entry) → readLines (length L) (termsOf L ++ x) (entriesOf L ++ y) ≡ L
-unfolding readLines termsOf entriesOf
+read-laid : (L : List Line) (x : List ℕ) (y : List Entry) → readLines (length L) (allTerms L ++ x) (entriesOf L ++ y) ≡ L
+unfolding readLines allTerms entriesOf
 read-laid [] x y = refl
 read-laid (line f w ∷ L) x y =
-    rw (append-assoc f (termsOf L) x, take-append-seam f (termsOf L ++ x), drop-append-seam f (termsOf L ++ x), read-laid L x y)
+    rw (append-assoc f (allTerms L) x, take-append-seam f (allTerms L ++ x), drop-append-seam f (allTerms L ++ x), read-laid L x y)
 
-pub length-terms : (L : List Line) → Short L → length (termsOf L) ≤ 64 * length L
-unfolding termsOf
+pub length-terms : (L : List Line) → Short L → length (allTerms L) ≤ 64 * length L
+unfolding allTerms
 length-terms [] s = omega arith
-length-terms (line f w ∷ L) s = rw (length-append f (termsOf L)) (omega (arith, s .0, length-terms L (s .1)))
+length-terms (line f w ∷ L) s = rw (length-append f (allTerms L)) (omega (arith, s .0, length-terms L (s .1)))
 
-terms-room : (n : ℕ) (L : List Line) → IsConfiguration n L → length (termsOf L) ≤ 8192
+terms-room : (n : ℕ) (L : List Line) → IsConfiguration n L → length (allTerms L) ≤ 8192
 terms-room n L q = omega (arith, length-terms L (configuration-short q), q .room)
 
 pub back-to-back : Faithful backToBack
 back-to-back = record {
   room = λ n L h. terms-room n L (configuration-parts n L h);
-  back = λ n L h. read-laid L (replicate (8192 - length (termsOf L)) 0) (replicate (128 - length L) unused);
+  back = λ n L h. read-laid L (replicate (8192 - length (allTerms L)) 0) (replicate (128 - length L) unused);
 }
 
 -- ---- zeros
@@ -87,10 +87,10 @@ unfolding usedBy
 used-none zero = refl
 used-none (suc n) = omega (arith, used-none n)
 
-used-lines : (L : List Line) → usedBy (entriesOf L) ≡ length (termsOf L)
-unfolding usedBy entriesOf termsOf
+used-lines : (L : List Line) → usedBy (entriesOf L) ≡ length (allTerms L)
+unfolding usedBy entriesOf allTerms
 used-lines [] = refl
-used-lines (line f w ∷ L) = ap (λ (n : ℕ). length f + n) (used-lines L) ∙ sym (length-append f (termsOf L))
+used-lines (line f w ∷ L) = ap (λ (n : ℕ). length f + n) (used-lines L) ∙ sym (length-append f (allTerms L))
 
 -- the first entries, one more, and all of them where the others are unused
 used-parts : (k : ℕ) (t : List Entry) → usedBy (take k t) + usedBy (drop k t) ≡ usedBy t
@@ -117,8 +117,8 @@ length-read zero ts t h = refl
 length-read (suc k) ts [] h = absurd (not-suc-le-zero h)
 length-read (suc k) ts (e ∷ t) h = ap suc (length-read k (drop (e .count) ts) t (le-of-suc-le-suc h))
 
-read-terms : (k : ℕ) (ts : List ℕ) (t : List Entry) → k ≤ length t → termsOf (readLines k ts t) ≡ take (usedBy (take k t)) ts
-unfolding readLines termsOf usedBy
+read-terms : (k : ℕ) (ts : List ℕ) (t : List Entry) → k ≤ length t → allTerms (readLines k ts t) ≡ take (usedBy (take k t)) ts
+unfolding readLines allTerms usedBy
 read-terms zero ts t h = refl
 read-terms (suc k) ts [] h = absurd (not-suc-le-zero h)
 read-terms (suc k) ts (e ∷ t) h =
@@ -153,13 +153,13 @@ well-formed m h =
     let e : m ≡ i = well-image backToBack m h in
     let q : IsConfiguration (m .variables) L = well-parts backToBack m h in
     let z : ℕ = 128 - length L in
-    let r : length (termsOf L) ≤ 8192 = terms-room (m .variables) L q in
-    let x : List ℕ = replicate (8192 - length (termsOf L)) 0 in
+    let r : length (allTerms L) ≤ 8192 = terms-room (m .variables) L q in
+    let x : List ℕ = replicate (8192 - length (allTerms L)) 0 in
     let lt : length (i .terms) ≡ 8192 = simp (length-append, length-replicate) (omega (arith, r)) in
     let le : length (i .table) ≡ 128 = simp (length-append, length-replicate) (omega (arith, length-entries L, q .room)) in
     let ub : T (allUnused (drop (length L) (i .table))) = rw (drop-at (entriesOf L) (replicate z unused) (length L) (length-entries L)) (unused-none z) in
-    let us : usedBy (i .table) ≡ length (termsOf L) = omega (arith, used-append (entriesOf L) (replicate z unused), used-lines L, used-none z) in
-    let ur : T (zeros (drop (usedBy (i .table)) (i .terms))) = rw (us, drop-append-seam (termsOf L) x) (replicate-zeros (8192 - length (termsOf L))) in
+    let us : usedBy (i .table) ≡ length (allTerms L) = omega (arith, used-append (entriesOf L) (replicate z unused), used-lines L, used-none z) in
+    let ur : T (zeros (drop (usedBy (i .table)) (i .terms))) = rw (us, drop-append-seam (allTerms L) x) (replicate-zeros (8192 - length (allTerms L))) in
     record {
       terms-length = ap (λ (k : Memory). length (k .terms)) e ∙ lt;
       table-length = ap (λ (k : Memory). length (k .table)) e ∙ le;
@@ -186,7 +186,7 @@ formed-well m q =
     let b : k ≤ length t = omega (arith, q .room, q .table-length) in
     let c : length L ≡ k = length-read k (m .terms) t b in
     let u : usedBy (take k t) ≡ usedBy t = used-front k t (q .behind) in
-    let s : take (usedBy t) (m .terms) ≡ termsOf L = ap (λ (n : ℕ). take n (m .terms)) (sym u) ∙ sym (read-terms k (m .terms) t b) in
+    let s : take (usedBy t) (m .terms) ≡ allTerms L = ap (λ (n : ℕ). take n (m .terms)) (sym u) ∙ sym (read-terms k (m .terms) t b) in
     let et : m .terms ≡ imageOf (m .variables) L .terms =
     zeros-behind (m .terms) (usedBy t) (q .terms-length) (q .used) (q .rest) ∙ ap (λ (x : List ℕ). x ++ replicate (8192 - length x) 0) s in
     let z : length (drop k t) ≡ 128 - length L = omega (arith, length-drop k t, q .table-length) in

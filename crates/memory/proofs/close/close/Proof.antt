@@ -14,7 +14,7 @@ use Rattle.table.specs.Rows.{Table, rowOf, linesOf, termsIn, Fits}
 use Rattle.table.specs.RowsLaws.{length-lines, line-at, entered-at, held-below, row-fits}
 use Rattle.table.proofs.Searches.{none}
 use Rattle.memory.specs.declared.Entry.{Entry}
-use Rattle.memory.specs.Memory.{Memory, termsOf, entriesOf, unused, imageOf}
+use Rattle.memory.specs.Memory.{Memory, allTerms, entriesOf, unused, imageOf}
 use Rattle.memory.specs.MemoryLaws.{length-terms}
 use Rattle.memory.proofs.Closings.{no-terms, no-end, no-lines, table-short, end-within, next-end, next-terms, next-entries, already-clear, cleared-now, written-back}
 use Rattle.memory.proofs.close.close.Statement.{statement}
@@ -23,8 +23,8 @@ use Rattle.memory.proofs.close.close.Tie as tie
 abbrev Inv-loop : tie.InvT-loop
 Inv-loop lines order rows weights counts used terms₀ entries₀ end₀ i₀ terms entries end i =
     let N = linesOf (record { lines = lines; order = order; terms = rows; weights = weights; counts = counts }) in
-    (i ≤ lines) × (length terms ≡ 8192) × (terms ≡ termsOf (take i N) ++ drop end terms₀) × (entries ≡ entriesOf (take i N) ++ replicate (128 - i) unused)
-    × (end ≡ length (termsOf (take i N)))
+    (i ≤ lines) × (length terms ≡ 8192) × (terms ≡ allTerms (take i N) ++ drop end terms₀) × (entries ≡ entriesOf (take i N) ++ replicate (128 - i) unused)
+    × (end ≡ length (allTerms (take i N)))
 
 abbrev μ-loop : tie.MeasureT-loop
 μ-loop lines order rows weights counts used terms₀ entries₀ end₀ i₀ terms entries end i = lines - i
@@ -157,7 +157,7 @@ loop-again c =
       search needs,
       p .ensures ∙ ap₂ (λ (m f : List ℕ). take (l .end) m ++ (f ++ drop (l .end + length f) m)) (l .inv .2) (row-is r)
           ∙ next-terms N (place k) (among k) f w none (here k) (now (t .terms)) (l .end) (l .inv .4)
-          ∙ ap (λ (g : List ℕ). termsOf (take (l .i + 1) N) ++ drop (l .end + length g) (now (t .terms))) (sym (row-is r)),
+          ∙ ap (λ (g : List ℕ). allTerms (take (l .i + 1) N) ++ drop (l .end + length g) (now (t .terms))) (sym (row-is r)),
       ap₂ (λ (t : List Entry) (e : Entry). set t (l .i) e) (l .inv .3)
           (ap₂ (λ (u : ℤ) (n : ℕ). record { weight = u; count = n }) (read-back _ (c .before .before .before .before .before .weight .given) ∙ ap (λ (r : ℕ). getD (now (t .weights)) r (pos 0)) a)
           (ap (λ (r : ℕ). getD (now (t .counts)) r 0) a ∙ sym (count-is k)))
@@ -178,14 +178,14 @@ all c = linesOf (table (before c))
 none-left : (c : Out) → take (c .before .loop .i) (all c) ≡ all c
 none-left c = take-all (c .before .loop .i) (all c) (omega (arith, c .loop-test .left, length-lines (before c .pre .0)))
 
-end-is : (c : Out) → length (termsOf (all c)) ≡ c .before .loop .end
-end-is c = ap (λ (M : List Line). length (termsOf M)) (sym (none-left c)) ∙ sym (c .before .loop .inv .4)
+end-is : (c : Out) → length (allTerms (all c)) ≡ c .before .loop .end
+end-is c = ap (λ (M : List Line). length (allTerms M)) (sym (none-left c)) ∙ sym (c .before .loop .inv .4)
 
-terms-are : (c : Out) → c .before .loop .terms ≡ termsOf (all c) ++ drop (c .before .loop .end) (now (before c .args .terms))
-terms-are c = c .before .loop .inv .2 ∙ ap (λ (M : List Line). termsOf M ++ drop (c .before .loop .end) (now (before c .args .terms))) (none-left c)
+terms-are : (c : Out) → c .before .loop .terms ≡ allTerms (all c) ++ drop (c .before .loop .end) (now (before c .args .terms))
+terms-are c = c .before .loop .inv .2 ∙ ap (λ (M : List Line). allTerms M ++ drop (c .before .loop .end) (now (before c .args .terms))) (none-left c)
 
 -- what is answered, in an area whose places behind the lines are zero
-image-is : (c : Out) (n : ℕ) (l : List ℕ) → l ≡ termsOf (all c) ++ replicate (8192 - c .before .loop .end) 0
+image-is : (c : Out) (n : ℕ) (l : List ℕ) → l ≡ allTerms (all c) ++ replicate (8192 - c .before .loop .end) 0
     → _≡_ {A = Memory} (record { variables = n; lines = before c .args .lines; terms = l; table = c .before .loop .entries }) (imageOf n (all c))
 image-is c n l e =
     let k = c .before .loop in
@@ -205,7 +205,7 @@ returns c =
     let l = o .before .loop in
     let s = before o in
     λ n. image-is o n _ (c .before .before .clear-part .ensures ∙ ap (λ (m : List ℕ). take (l .end) m ++ (replicate (s .args .used - l .end) 0 ++ drop (s .args .used) m)) (terms-are o)
-    ∙ cleared-now (termsOf (all o)) (now (s .args .terms)) (s .args .used) (s .pre .1) (s .pre .2) (s .pre .3) (l .end) (end-is o) (c .before .before .before .before .if1 .taken))
+    ∙ cleared-now (allTerms (all o)) (now (s .args .terms)) (s .args .used) (s .pre .1) (s .pre .2) (s .pre .3) (l .end) (end-is o) (c .before .before .before .before .if1 .taken))
 
 same-length-2 : tie.Need-same-length-2 Inv-loop μ-loop
 same-length-2 c = c .before .before .loop .inv .1 ∙ sym (c .before .before .before .before .before .before .before .before .pre .1)
@@ -215,7 +215,7 @@ returns-2 c =
     let o = c .before in
     let l = o .before .loop in
     let s = before o in
-    λ n. image-is o n _ (terms-are o ∙ already-clear (termsOf (all o)) (now (s .args .terms)) (s .args .used) (s .pre .1) (s .pre .2) (s .pre .3) (l .end) (end-is o) (c .if1 .left)
+    λ n. image-is o n _ (terms-are o ∙ already-clear (allTerms (all o)) (now (s .args .terms)) (s .args .used) (s .pre .1) (s .pre .2) (s .pre .3) (l .end) (end-is o) (c .if1 .left)
     (omega (arith, end-is o, length-terms (all o) (table-short (s .pre .0)), length-lines (s .pre .0), s .pre .0 .room)))
 
 pub close-spec : {M : Type 1} → statement M

@@ -126,33 +126,41 @@ append-requires c κs =
       next-ordered (standing k) (table k) (q .2) (in-lines k) f (toZ w64 (ofZ w64 (entry k .weight))) x (fit-ordered (start k .args .head .variables) (standing k) (formed (start k) .fit)),
     )
 
--- the line that was put in
-read-line : (c : tie.After-slice-known6 Inv-loop μ-loop) → (let k = c .before .before .before .before .before .before .before .before .before .before .before .before .before .before .before .before in
-    getD (standing k) (k .before .loop .held) none ≡ line (c .before .before .before .before .before .before .before .before .before .before .before .before .part .result .now) (toZ w64 (ofZ w64 (entry k .weight))))
-read-line c =
-    let k = c .before .before .before .before .before .before .before .before .before .before .before .before .before .before .before .before in
-    here k (c .before .before .before .before .before .before .before .before .before .before .before .before .part .result .now) _ (c .before .before .before .before .before .before .before .before .before .before .before .before .part .ensures) (read-back (entry k .weight) (c .before .before .before .before .before .before .before .before .before .before .before .before .before .struct-told .given .0 .1))
+-- ---- it is put in
+abbrev Put : Type 0
+Put = tie.After-slice-known6 Inv-loop μ-loop
+
+abbrev turn : Put → In
+turn c = c .before .before .before .before .before .before .before .before .before .before .before .before .before .before .before .before
+
+abbrev polynomial : Put → List ℕ
+polynomial c = c .before .before .before .before .before .before .before .before .before .before .before .before .part .result .now
+
+read-line : (c : Put) → getD (standing (turn c)) (turn c .before .loop .held) none ≡ line (polynomial c) (toZ w64 (ofZ w64 (entry (turn c) .weight)))
+read-line c = here (turn c) (polynomial c) _ (c .before .before .before .before .before .before .before .before .before .before .before .before .part .ensures) (read-back (entry (turn c) .weight) (c .before .before .before .before .before .before .before .before .before .before .before .before .before .struct-told .given .0 .1))
 
 -- one line more
-advanced : (c : tie.After-slice-known6 Inv-loop μ-loop) → c .before .before .before .before .before .before .before .append .result ≡ suc (c .before .before .before .before .before .before .before .before .before .before .before .before .before .before .before .before .before .loop .held)
+advanced : (c : Put) → c .before .before .before .before .before .before .before .append .result ≡ suc (turn c .before .loop .held)
 advanced c =
-    let k = c .before .before .before .before .before .before .before .before .before .before .before .before .before .before .before .before in
+    let k = turn c in
     let q = k .before .loop .inv in
-    next-lines (standing k) (table k) (q .2) (in-lines k) (c .before .before .before .before .before .before .before .before .before .before .before .before .part .result .now) _ (read-line c) _ (to-capacity (q .1) (c .before .before .before .before .before .before .before .append .ensures .1)) (c .before .before .before .before .before .before .before .append .ensures .0)
+    let p = c .before .before .before .before .before .before .before .append in
+    next-lines (standing k) (table k) (q .2) (in-lines k) (polynomial c) _ (read-line c) _ (to-capacity (q .1) (p .ensures .1)) (p .ensures .0)
 
 add-start : tie.Need-add-start Inv-loop μ-loop
-add-start c = let b = within (c .before .before .before .before .before .before .before .before .before .before .before .before .before .before .before .before) in search needs
+add-start c = let b = within (turn c) in search needs
 
 loop-less : tie.Need-loop-less Inv-loop μ-loop
-loop-less c = let k = c .before .before .before .before .before .before .before .before .before .before .before .before .before .before .before .before in omega (arith, k .loop-test .taken, advanced c)
+loop-less c = omega (arith, turn c .loop-test .taken, advanced c)
 
 loop-again : tie.Need-loop-again Inv-loop μ-loop
 loop-again c =
-    let k = c .before .before .before .before .before .before .before .before .before .before .before .before .before .before .before .before in
-    let q = k .before .loop .inv in (
+    let k = turn c in
+    let q = k .before .loop .inv in
+    let p = c .before .before .before .before .before .before .before .append in (
       omega (arith, k .loop-test .taken, advanced c),
-      to-capacity (q .1) (c .before .before .before .before .before .before .before .append .ensures .1),
-      next-held (standing k) (table k) (q .2) (in-lines k) (c .before .before .before .before .before .before .before .before .before .before .before .before .part .result .now) _ (read-line c) _ (to-capacity (q .1) (c .before .before .before .before .before .before .before .append .ensures .1)) (c .before .before .before .before .before .before .before .append .ensures .0),
+      to-capacity (q .1) (p .ensures .1),
+      next-held (standing k) (table k) (q .2) (in-lines k) (polynomial c) _ (read-line c) _ (to-capacity (q .1) (p .ensures .1)) (p .ensures .0),
       behind k ∙ ap (λ (j : ℕ). usedBy (take j (start k .args .t3))) (sym (advanced c)),
     )
 
