@@ -1,5 +1,5 @@
 //! The proved checker, as a static library, beside a plain one: first compared on many inputs, then timed on four workloads.
-//! Neither side clears its areas between calls.
+//! Neither side clears its areas between calls. Then the open operations on lent memory are timed, by the program `lent_calls`.
 
 mod inputs;
 mod plain;
@@ -7,7 +7,10 @@ mod plain;
 use inputs::{Input, Random};
 use plain::Checker;
 use std::collections::BTreeMap;
+use std::fs;
 use std::hint::black_box;
+use std::path::Path;
+use std::process::{Command, Stdio};
 use std::time::Instant;
 
 unsafe extern "C" {
@@ -197,6 +200,34 @@ fn time(sides: &mut Sides, workload: &Workload) {
     );
 }
 
+// ---- timing on lent memory
+
+/// Nanoseconds that a run of the program `lent_calls` takes in a folder, the least of many, for each of the thousand times that it makes its calls.
+fn run_calls(folder: &Path, calls: &str) -> f64 {
+    fs::write(folder.join("calls"), calls).expect("a file of calls");
+    let program = fs::canonicalize("target/bin/lent_calls").expect("the program lent_calls");
+    let run = || {
+        let start = Instant::now();
+        let ended = Command::new(&program).current_dir(folder).stdout(Stdio::null()).status();
+        assert!(ended.is_ok_and(|status| status.success()), "lent_calls failed");
+        start.elapsed().as_nanos() as f64 / 1000.0
+    };
+    (0..30).map(|_| run()).fold(f64::INFINITY, f64::min)
+}
+
+/// One row: what a filing, a check and a direct step take in memory that is lent, each as what so many more of them take.
+fn time_lent(workload: &Workload) {
+    let folder = Path::new("target/bench/lent");
+    fs::create_dir_all(folder).expect("a folder");
+    fs::write(folder.join("problem.bin"), &workload.inputs[0].problem).expect("the problem's file");
+    fs::write(folder.join("steps.bin"), &workload.inputs[0].steps).expect("the derivation's file");
+    let one = run_calls(folder, "F");
+    let filing = (run_calls(folder, "FFFFF") - one) / 4.0;
+    let check = (run_calls(folder, "FCFCFCFC") - one - 3.0 * filing) / 4.0;
+    let step = (run_calls(folder, "FSRSR") - one) / 4.0;
+    println!("{:<17}{filing:>10.0}{check:>10.0}{step:>10.0}", workload.name);
+}
+
 fn main() {
     let words: Vec<String> = std::env::args().collect();
     let many = words.get(1).map_or(50_000, |w| w.parse().expect("a number of inputs"));
@@ -241,6 +272,10 @@ fn main() {
     );
     for workload in &workloads {
         time(&mut sides, workload);
+    }
+    println!("\n{:<17}{:>10}{:>10}{:>10}", "ns on lent memory", "a filing", "a check", "a step");
+    for workload in workloads.iter().filter(|w| w.inputs.len() == 1) {
+        time_lent(workload);
     }
     if differ != 0 {
         std::process::exit(1);

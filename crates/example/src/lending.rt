@@ -1,6 +1,6 @@
 // The open operations on a table of any length up to 129: each holds 129 records for one operation, lends the first so
-// many of them, and gives all back. They are for `operations` of this crate and for the program `worked_examples`, which ask
-// for no more than there are.
+// many of them, and gives all back. They are for `operations` of this crate and for the programs `worked_examples` and
+// `lent_calls`, which ask for no more than there are.
 use calculus::Mode;
 use calculus::Rule;
 use checker::Checked;
