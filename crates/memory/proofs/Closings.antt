@@ -15,7 +15,7 @@ use Rattle.memory.specs.declared.Entry.{Entry}
 use Rattle.memory.specs.Memory.{Memory, allTerms, entriesOf, unused, imageOf}
 use Rattle.memory.specs.LayoutLaws.{length-entries}
 use Rattle.memory.specs.MemoryLaws.{zeros-replicate, length-terms}
-use Rattle.memory.specs.Places.{zeros}
+use Rattle.memory.specs.Places.{ClearFrom}
 
 each-short : (t : Table) (is : List ℕ) → Each (Entered t) is → Short (linesAt t is)
 each-short t [] h = tt
@@ -86,7 +86,7 @@ module _ (N : List Line) (i : ℕ) (b : i < length N) where
         ∙ ap (λ (t : List Entry). t ++ r) (sym (ap entriesOf more ∙ entries-more M f w))
 
 -- ---- what lies behind the last line, in an area l that was zero from the place u on
-module _ (x l : List ℕ) (u : ℕ) (n : length l ≡ 8192) (h : u ≤ 8192) (z : T (zeros (drop u l))) where
+module _ (x l : List ℕ) (u : ℕ) (z : ClearFrom u l) where
   abbrev zerosFrom : ℕ → List ℕ
   zerosFrom e = replicate (8192 - e) 0
 
@@ -97,7 +97,7 @@ module _ (x l : List ℕ) (u : ℕ) (n : length l ≡ 8192) (h : u ≤ 8192) (z 
       ∙ drop-at (replicate k 0) (replicate (m - k) 0) k (length-replicate {A = ℕ} k 0)
 
   rest-zero : drop u l ≡ zerosFrom u
-  rest-zero = let k : length (drop u l) ≡ 8192 - u = omega (arith, length-drop u l) in zeros-replicate (drop u l) z ∙ ap (λ (j : ℕ). replicate j 0) k
+  rest-zero = let k : length (drop u l) ≡ 8192 - u = omega (arith, length-drop u l, z .0, z .1) in zeros-replicate (drop u l) (z .2) ∙ ap (λ (j : ℕ). replicate j 0) k
 
   module _ (e : ℕ) (c : length x ≡ e) where
     abbrev m : List ℕ

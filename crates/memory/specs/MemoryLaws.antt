@@ -16,7 +16,7 @@ use Rattle.configuration.specs.LineLaws.{Short, IsConfiguration, configuration-
 use Rattle.memory.specs.declared.Entry.{Entry}
 use Rattle.memory.specs.Memory.{Memory, readLines, allTerms, backToBack, entriesOf, unused, sameMemory, Faithful, standingOf, imageOf, wellFormed}
 use Rattle.memory.specs.LayoutLaws.{memory-self, length-entries, well-image, well-parts}
-use Rattle.memory.specs.Places.{usedBy, zeros, isUnused, allUnused}
+use Rattle.memory.specs.Places.{usedBy, zeros, ClearFrom, isUnused, allUnused}
 
 -- ---- lines laid out and read back, whatever stands behind them
 read-laid : (L : List Line) (x : List ℕ) (y : List Entry) → readLines (length L) (allTerms L ++ x) (entriesOf L ++ y) ≡ L
@@ -45,9 +45,10 @@ unfolding zeros
 zeros-replicate [] h = refl
 zeros-replicate (x ∷ l) h = ap₂ (λ (y : ℕ) (m : List ℕ). y ∷ m) (eqb→eq x 0 (left (eqb x 0) (zeros l) h)) (zeros-replicate l (right (eqb x 0) (zeros l) h))
 
-pub zeros-past : (l : List ℕ) (n : ℕ) → length l ≤ n → T (zeros (drop n l))
+-- an area of any content is clear behind its end
+pub clear-past : (ts : List ℕ) → length ts ≡ 8192 → ClearFrom 8192 ts
 unfolding zeros
-zeros-past l n h = rw (drop-of-length-le l {i = n} h) tt
+clear-past ts h = (h, omega arith, rw (drop-of-length-le ts {i = 8192} (omega arith)) tt)
 
 replicate-zeros : (n : ℕ) → T (zeros (replicate n 0))
 unfolding zeros
@@ -171,6 +172,10 @@ well-formed m h =
       fit = q .fit;
       weights = q .weights;
     }
+
+-- behind the lines that it holds, a well-formed memory is clear
+pub well-clear : (m : Memory) → T (wellFormed m) → ClearFrom (usedBy (m .table)) (m .terms)
+well-clear m h = let q = well-formed m h in (q .terms-length, q .used, q .rest)
 
 -- a part of an area, and zeros behind it
 zeros-behind : (ts : List ℕ) (u : ℕ) → length ts ≡ 8192 → u ≤ 8192 → T (zeros (drop u ts)) → ts ≡ take u ts ++ replicate (8192 - length (take u ts)) 0

@@ -1,8 +1,10 @@
 -- The layout as code goes through it: the places that entries count, and what no line uses.
+use mathlib.Core.Path.{_≡_}
 use mathlib.Core.Bool.{Bool, true, _&&_}
 use mathlib.Core.List.{List, [], _∷_}
-use Prim.Native.Nat.{ℕ, _+_}
-use lib.Dec.{eqb}
+use Prim.Native.Nat.{ℕ, _+_, _≤_}
+use lib.Dec.{T, eqb}
+use lib.ListN.{length, drop}
 use Rattle.configuration.specs.Weight.{isZero}
 use Rattle.memory.specs.declared.Entry.{Entry}
 
@@ -14,6 +16,10 @@ usedBy (e ∷ t) = e .count + usedBy t
 unfoldable pub zeros : List ℕ → Bool
 zeros [] = true
 zeros (x ∷ l) = eqb x 0 && zeros l
+
+-- a term area that is zero from a place on
+abbrev pub ClearFrom : ℕ → List ℕ → Type 0
+ClearFrom u ts = (length ts ≡ 8192) × (u ≤ 8192) × T (zeros (drop u ts))
 
 -- no entry is used
 abbrev pub isUnused : Entry → Bool

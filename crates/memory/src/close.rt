@@ -6,12 +6,10 @@ use polynomial::area::write;
 use table::lines::row;
 use table::order::row_at;
 ghost use mathlib.Core.Path.{_≡_};
-ghost use Prim.Native.Nat.{ℕ, _≤_};
-ghost use lib.Dec.{T};
-ghost use lib.ListN.{length, drop};
+ghost use Prim.Native.Nat.{ℕ};
 ghost use Rattle.table.specs.Rows.{tableAt, tableBefore, linesOf, Fits};
 ghost use Rattle.memory.specs.Memory.{memoryAfter, imageOf};
-ghost use Rattle.memory.specs.Places.{zeros};
+ghost use Rattle.memory.specs.Places.{ClearFrom};
 
 // Writes the lines of the working form back, in their order, into a term area that is zero from the place `used` on, and answers
 // their entries. Only the places up to there that the lines leave are cleared. It is for the crate `checker`.
@@ -24,7 +22,7 @@ pub fn close(
     used: usize,
     terms: &mut [u32],
 ) -> [Entry; 128]
-    requires { ⌜ Fits 128 (tableAt lines order rows weights counts) × (length (now terms) ≡ 8192) × (used ≤ 8192) × T (zeros (drop used (now terms))) ⌝ }
+    requires { ⌜ Fits 128 (tableAt lines order rows weights counts) × ClearFrom used (now terms) ⌝ }
     ensures { λ r. let N = linesOf (tableBefore lines order rows weights counts) in
         ⌜ ((n : ℕ) → memoryAfter (record { variables = n; lines = lines }) terms r ≡ imageOf n N) ⌝ }
 {

@@ -1,17 +1,16 @@
 -- `checked` meets its contract: the lines are read, checked and written back.
 use mathlib.Core.Path.{sym, ap, subst, _∙_}
 use mathlib.Core.List.{List}
-use Prim.Native.Nat.{ℕ, _≤_}
+use Prim.Native.Nat.{ℕ}
 use lib.Dec.{T}
-use lib.ListN.{drop}
 use denote.Ref.{now}
 use borrow.Author.Needs.{needs}
 use Rattle.refusal.specs.Outcome.{accepted}
 use Rattle.configuration.specs.Configuration.{Line, isConfiguration}
 use Rattle.memory.specs.Memory.{Memory, memoryOf, backToBack}
-use Rattle.memory.specs.Places.{zeros}
+use Rattle.memory.specs.Places.{ClearFrom}
 use Rattle.memory.specs.LayoutLaws.{well-configuration}
-use Rattle.memory.specs.MemoryLaws.{well-formed}
+use Rattle.memory.specs.MemoryLaws.{well-clear}
 use Rattle.derivation.specs.Derivation.{checkDerivation, toldOfCheck}
 use Rattle.checker.specs.Checker.{leftBy}
 use Rattle.checker.proofs.Outcomes.{closed}
@@ -76,12 +75,7 @@ close-requires : tie.Need-close-requires
 close-requires c κs =
     let s = c .before .before .before .before .before .before .before .before .before .before .before .before .before .before .before .before .before .before .before .before .before .before .before .before .before .before .before .before in
     let u = c .before .before .before .before .before .used-by in
-    let q = well-formed (lent s) (s .pre) in (
-      c .before .before .before .before .before .before .before .before .before .before .check-derivation .ensures .1,
-      q .terms-length,
-      subst (λ (n : ℕ). n ≤ 8192) (sym (u .ensures)) (q .used),
-      subst (λ (n : ℕ). T (zeros (drop n (now (s .args .terms))))) (sym (u .ensures)) (q .rest),
-    )
+    (c .before .before .before .before .before .before .before .before .before .before .check-derivation .ensures .1, subst (λ (n : ℕ). ClearFrom n (now (s .args .terms))) (sym (u .ensures)) (well-clear (lent s) (s .pre)))
 
 cast-lines : tie.Need-cast-lines
 cast-lines c = search needs

@@ -2,7 +2,6 @@
 use mathlib.Core.Path.{sym, subst}
 use mathlib.Core.List.{List}
 use Prim.Native.Nat.{ℕ}
-use native.Mathlib.Omega.{arith}
 use lib.Dec.{lit≤}
 use lib.IntN.{ℤ, pos}
 use lib.ListN.{length-replicate, replicate}
@@ -10,7 +9,7 @@ use denote.Ref.{now}
 use borrow.Author.Needs.{needs}
 use Rattle.table.specs.Rows.{Fits, inTurn}
 use Rattle.table.specs.RowsLaws.{fresh-fits}
-use Rattle.memory.specs.MemoryLaws.{zeros-past}
+use Rattle.memory.specs.MemoryLaws.{clear-past}
 use Rattle.problem.specs.Problem.{toldOfFiling}
 use Rattle.checker.proofs.Outcomes.{closed}
 use Rattle.checker.proofs.filing.filed.Statement.{statement}
@@ -56,7 +55,7 @@ slice-aggregate-close-4 c = search needs
 close-requires : tie.Need-close-requires
 close-requires c κs =
     let s = c .before .before .before .before .before .before .before .before .before .before .before .before .before .before .before .before .before in
-    (c .before .before .before .before .before .before .before .before .before .file-problem .ensures .1, s .pre, omega arith, zeros-past (now (s .args .terms)) 8192 (omega (arith, s .pre)))
+    (c .before .before .before .before .before .before .before .before .before .file-problem .ensures .1, clear-past (now (s .args .terms)) (s .pre))
 
 cast-lines : tie.Need-cast-lines
 cast-lines c = search needs

@@ -1,9 +1,8 @@
 -- `taken` meets its contract: the lines are read, the step is taken on them, and they are written back where it is.
 use mathlib.Core.Path.{_≡_, sym, ap, subst, _∙_}
 use mathlib.Core.List.{List}
-use Prim.Native.Nat.{ℕ, _≤_}
+use Prim.Native.Nat.{ℕ}
 use lib.Dec.{T}
-use lib.ListN.{drop}
 use mir.Facts.{toZ-ofZ}
 use denote.Ref.{now}
 use borrow.Author.Needs.{needs}
@@ -12,9 +11,9 @@ use Rattle.configuration.specs.Configuration.{Line, weightsFit}
 use Rattle.calculus.specs.Calculus.{step}
 use Rattle.table.specs.Rows.{linesOf}
 use Rattle.memory.specs.Memory.{Memory, memoryOf, backToBack}
-use Rattle.memory.specs.Places.{zeros}
+use Rattle.memory.specs.Places.{ClearFrom}
 use Rattle.memory.specs.LayoutLaws.{well-parts}
-use Rattle.memory.specs.MemoryLaws.{well-formed}
+use Rattle.memory.specs.MemoryLaws.{well-clear}
 use Rattle.checker.specs.Checker.{leftOf, toldOfStep}
 use Rattle.checker.specs.declared.Stepped.{Stepped}
 use Rattle.checker.proofs.Outcomes.{step-refused, step-taken}
@@ -110,12 +109,7 @@ close-requires : tie.Need-close-requires
 close-requires c κs =
     let s = c .before .before .before .before .before .before .before .before .before .before .before .before .before .before .before .before .before .before .before .before .before .before .before .before .before .before .before .before .before .before .before in
     let u = c .before .before .before .before .before .used-by in
-    let q = well-formed (lent s) (s .pre .0) in (
-      c .before .before .before .before .before .before .before .before .before .before .before .before .step .ensures .1,
-      q .terms-length,
-      subst (λ (n : ℕ). n ≤ 8192) (sym (u .ensures)) (q .used),
-      subst (λ (n : ℕ). T (zeros (drop n (now (s .args .terms))))) (sym (u .ensures)) (q .rest),
-    )
+    (c .before .before .before .before .before .before .before .before .before .before .before .before .step .ensures .1, subst (λ (n : ℕ). ClearFrom n (now (s .args .terms))) (sym (u .ensures)) (well-clear (lent s) (s .pre .0)))
 
 cast-lines : tie.Need-cast-lines
 cast-lines c = search needs

@@ -39,7 +39,7 @@ loop-holds : tie.Need-loop-holds Inv-loop μ-loop
 loop-holds c =
     let s = c .before .before .before .before .before in
     let N = linesOf (table s) in
-    (omega arith, s .pre .1, no-terms N (now (s .args .terms)), c .no-entries .ensures ∙ no-lines N, no-end N)
+    (omega arith, s .pre .1 .0, no-terms N (now (s .args .terms)), c .no-entries .ensures ∙ no-lines N, no-end N)
 
 -- ---- line `i`
 abbrev In : Type 0
@@ -194,7 +194,7 @@ image-is c n l e =
     (k .inv .3 ∙ ap₂ (λ (M : List Line) (j : ℕ). entriesOf M ++ replicate (128 - j) unused) (none-left c) i)
 
 clear-part-requires : tie.Need-clear-part-requires Inv-loop μ-loop
-clear-part-requires c κs = let l = c .before .before .before .loop in let s = c .before .before .before .before .before .before .before .before .before in (omega arith, omega (arith, l .inv .1, s .pre .2))
+clear-part-requires c κs = let l = c .before .before .before .loop in let s = c .before .before .before .before .before .before .before .before .before in (omega arith, omega (arith, l .inv .1, s .pre .1 .1))
 
 same-length : tie.Need-same-length Inv-loop μ-loop
 same-length c = search needs
@@ -205,17 +205,17 @@ returns c =
     let l = o .before .loop in
     let s = before o in
     λ n. image-is o n _ (c .before .before .clear-part .ensures ∙ ap (λ (m : List ℕ). take (l .end) m ++ (replicate (s .args .used - l .end) 0 ++ drop (s .args .used) m)) (terms-are o)
-    ∙ cleared-now (allTerms (all o)) (now (s .args .terms)) (s .args .used) (s .pre .1) (s .pre .2) (s .pre .3) (l .end) (end-is o) (c .before .before .before .before .if1 .taken))
+    ∙ cleared-now (allTerms (all o)) (now (s .args .terms)) (s .args .used) (s .pre .1) (l .end) (end-is o) (c .before .before .before .before .if1 .taken))
 
 same-length-2 : tie.Need-same-length-2 Inv-loop μ-loop
-same-length-2 c = c .before .before .loop .inv .1 ∙ sym (c .before .before .before .before .before .before .before .before .pre .1)
+same-length-2 c = c .before .before .loop .inv .1 ∙ sym (c .before .before .before .before .before .before .before .before .pre .1 .0)
 
 returns-2 : tie.Need-returns-2 Inv-loop μ-loop
 returns-2 c =
     let o = c .before in
     let l = o .before .loop in
     let s = before o in
-    λ n. image-is o n _ (terms-are o ∙ already-clear (allTerms (all o)) (now (s .args .terms)) (s .args .used) (s .pre .1) (s .pre .2) (s .pre .3) (l .end) (end-is o) (c .if1 .left)
+    λ n. image-is o n _ (terms-are o ∙ already-clear (allTerms (all o)) (now (s .args .terms)) (s .args .used) (s .pre .1) (l .end) (end-is o) (c .if1 .left)
     (omega (arith, end-is o, length-terms (all o) (table-short (s .pre .0)), length-lines (s .pre .0), s .pre .0 .room)))
 
 pub close-spec : {M : Type 1} → statement M
