@@ -10,7 +10,7 @@ use std::collections::BTreeMap;
 use std::fs;
 use std::hint::black_box;
 use std::path::Path;
-use std::process::{Command, Stdio};
+use std::process::Command;
 use std::time::Instant;
 
 unsafe extern "C" {
@@ -202,29 +202,34 @@ fn time(sides: &mut Sides, workload: &Workload) {
 
 // ---- timing on lent memory
 
-/// Nanoseconds that a run of the program `lent_calls` takes in a folder, the least of many, for each of the thousand times that it makes its calls.
-fn run_calls(folder: &Path, calls: &str) -> f64 {
+/// Nanoseconds that one run of the program `lent_calls` takes in a folder, for each of the thousand times that it makes its calls.
+fn run_calls(program: &Path, folder: &Path, calls: &str) -> f64 {
     fs::write(folder.join("calls"), calls).expect("a file of calls");
-    let program = fs::canonicalize("target/bin/lent_calls").expect("the program lent_calls");
-    let run = || {
-        let start = Instant::now();
-        let ended = Command::new(&program).current_dir(folder).stdout(Stdio::null()).status();
-        assert!(ended.is_ok_and(|status| status.success()), "lent_calls failed");
-        start.elapsed().as_nanos() as f64 / 1000.0
-    };
-    (0..30).map(|_| run()).fold(f64::INFINITY, f64::min)
+    let start = Instant::now();
+    let ended = Command::new(program).current_dir(folder).output().expect("the program lent_calls");
+    let taken = start.elapsed().as_nanos() as f64 / 1000.0;
+    let said = String::from_utf8_lossy(&ended.stdout);
+    assert!(ended.status.success() && (said.starts_with("accepted") || said.starts_with("confirmed")), "lent_calls says '{said}' of {calls}");
+    taken
 }
 
-/// One row: what a filing, a check and a direct step take in memory that is lent, each as what so many more of them take.
+/// One row: what a filing, a check and a direct step take in memory that is lent, each as what so many more of them take. The lists of calls are
+/// run in turn, and the least of each counts, so that other work on the machine does not fall on one of them.
 fn time_lent(workload: &Workload) {
     let folder = Path::new("target/bench/lent");
     fs::create_dir_all(folder).expect("a folder");
     fs::write(folder.join("problem.bin"), &workload.inputs[0].problem).expect("the problem's file");
     fs::write(folder.join("steps.bin"), &workload.inputs[0].steps).expect("the derivation's file");
-    let one = run_calls(folder, "F");
-    let filing = (run_calls(folder, "FFFFF") - one) / 4.0;
-    let check = (run_calls(folder, "FCFCFCFC") - one - 3.0 * filing) / 4.0;
-    let step = (run_calls(folder, "FSRSR") - one) / 4.0;
+    let program = fs::canonicalize("target/bin/lent_calls").expect("the program lent_calls");
+    let mut least = [f64::INFINITY; 4];
+    for _ in 0..40 {
+        for (calls, least) in ["F", "FFFFF", "FCFCFCFC", "FSRSR"].iter().zip(&mut least) {
+            *least = least.min(run_calls(&program, folder, calls));
+        }
+    }
+    let [one, filings, checks, steps] = least;
+    let filing = (filings - one) / 4.0;
+    let (check, step) = ((checks - one - 3.0 * filing) / 4.0, (steps - one) / 4.0);
     println!("{:<17}{filing:>10.0}{check:>10.0}{step:>10.0}", workload.name);
 }
 

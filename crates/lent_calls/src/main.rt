@@ -17,7 +17,8 @@ use files::read_file;
 use memory::Entry;
 use memory::Head;
 
-// What goes from one call to the next: the head and the records, and what the last call said.
+// What goes from one call to the next: the head and the records, and what the last call said. The term area is lent apart, unlike in
+// `example::state`, so that no copies of it are timed.
 struct Lent {
     head: Head,
     entries: [Entry; 129],

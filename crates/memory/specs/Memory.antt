@@ -24,12 +24,13 @@ abbrev pub memoryOf : Head → List ℕ → List Entry → Memory
 memoryOf h ts t = record { variables = h .variables; lines = h .lines; terms = ts; table = t }
 
 -- ---- the layout of code: the terms of all lines, one after the other
--- the first so many lines of a term area, whose entries count their terms
+-- the first so many lines: an entry counts the terms of its line, which begin where those of the line before end
 unfoldable pub readLines : ℕ → List ℕ → List Entry → List Line
 readLines zero ts t = []
 readLines (suc k) ts [] = []
 readLines (suc k) ts (e ∷ t) = line (take (e .count) ts) (e .weight) ∷ readLines k (drop (e .count) ts) t
 
+-- the terms of all lines, in line order
 unfoldable pub allTerms : List Line → List ℕ
 allTerms [] = []
 allTerms (line f w ∷ L) = f ++ allTerms L

@@ -21,7 +21,7 @@ zeros (x ∷ l) = eqb x 0 && zeros l
 abbrev pub ClearFrom : ℕ → List ℕ → Type 0
 ClearFrom u ts = (length ts ≡ 8192) × (u ≤ 8192) × T (zeros (drop u ts))
 
--- no entry is used
+-- an entry of no line, and a run of such
 abbrev pub isUnused : Entry → Bool
 isUnused e = isZero (e .weight) && eqb (e .count) 0
 
