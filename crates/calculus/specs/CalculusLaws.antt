@@ -21,22 +21,20 @@ use Rattle.run.specs.F2.{_⊕_}
 use Rattle.run.specs.Run.{sorted, Sorted}
 use Rattle.run.specs.RunLaws.{normal-id}
 use Rattle.term.specs.Term.{before}
-use Rattle.polynomial.specs.Polynomial.{ZERO, ONE, eval, sumOf, productOf, Below}
-use Rattle.polynomial.specs.PolynomialLaws.{written, eval-sum, eval-product, eval-one, sum-ordered, product-ordered, sum-below, product-below, product-plus-one}
+use Rattle.polynomial.specs.Polynomial.{ZERO, ONE, eval, sumOf, productOf, Ordered, Below}
+use Rattle.polynomial.specs.PolynomialLaws.{written, eval-sum, eval-product, eval-one, sum-ordered, product-ordered, sum-below, product-below, everywhere, product-plus-one}
 use Rattle.configuration.specs.Weight.{isNegative, share}
 use Rattle.configuration.specs.Configuration.{Line, line, some, same, total, cost, weight, addAll, negated, InOrder, Every, below, isPolynomial, linesFit, weightsFit, isConfiguration, anyNegative}
 use Rattle.configuration.specs.SumLaws.{share-neg, solve, o, v, _⊞_, ⊟}
-use Rattle.configuration.specs.ConfigurationLaws.{same-is, same-none, total-negated, total-append, cost-all, weight-all, all-ordered, weight-behind, weight-head, all-fit}
+use Rattle.configuration.specs.ConfigurationLaws.{same-is, same-none, total-negated, total-append, same-changes, cost-all, weight-all, all-ordered, weight-behind, weight-head, all-fit}
 use Rattle.configuration.specs.Limits.{within}
-use Rattle.configuration.specs.LineLaws.{polynomial-below, polynomial-sorted, polynomial-is, sum-sign, every-append, within-accepted, configuration-parts, parts-configuration}
+use Rattle.configuration.specs.LineLaws.{polynomial-below, polynomial-is, sum-sign, every-append, within-accepted, configuration-parts, parts-configuration}
 use Rattle.calculus.specs.Calculus.{premises, conclusions, changes, isPlain, amountFits, covers, there, allShort, modeTests, changed, step, operandTests, directStep}
 use Rattle.calculus.specs.declared.Rule.{Rule}
 use Rattle.calculus.specs.declared.Rule.the-variants.{Sum, Prod}
 use Rattle.calculus.specs.declared.Mode.{Mode}
 use Rattle.calculus.specs.declared.Mode.the-variants.{Plain}
 use Rattle.run.specs.BooleanLaws as B
-use Rattle.polynomial.specs.PolynomialLaws as P
-use Rattle.configuration.specs.ConfigurationLaws as C
 
 -- ---- every rule is strongly sound: its conclusions cost what its premises cost, at every assignment
 sum-sound : (a b : Bool) (w : ℤ) → share a w +ℤ (share b w +ℤ pos 0) ≡ share (a ⊕ b) w +ℤ (share (a && b) (w +ℤ w) +ℤ pos 0)
@@ -67,14 +65,13 @@ changes-cost r f g w α = total-changes (λ p. eval p α) r f g w ∙ rw (sound 
 pub stepped-cost : (r : Rule) (f g : List ℕ) (w : ℤ) (L : List Line) (α : ℕ) → cost (addAll (changes r f g w) L) α ≡ cost L α
 stepped-cost r f g w L α = cost-all (changes r f g w) L α ∙ rw (changes-cost r f g w α) (+ℤ-idr (cost L α))
 
--- ---- where f g or f (g + 1) is 0 the other is f, and PROD changes nothing
-rest-whole : (n : ℕ) (f g : List ℕ) → Below n f → Below n g → Sorted before f → productOf f g ≡ ZERO → productOf f (sumOf g ONE) ≡ f
-rest-whole n f g a b s e = product-plus-one n f g a b ∙ ap (λ (p : List ℕ). sumOf p f) e ∙ normal-id before written f s
+-- ---- where f g or f (g + 1) is 0 the other is f, and PROD changes nothing; f has any length
+rest-whole : (f g : List ℕ) → Ordered f → productOf f g ≡ ZERO → productOf f (sumOf g ONE) ≡ f
+rest-whole f g s e = product-plus-one f g ∙ ap (λ (p : List ℕ). sumOf p f) e ∙ normal-id before written f s
 
-product-whole : (n : ℕ) (f g : List ℕ) → Below n f → Below n g → Sorted before f → productOf f (sumOf g ONE) ≡ ZERO → productOf f g ≡ f
+product-whole : (f g : List ℕ) → Ordered f → productOf f (sumOf g ONE) ≡ ZERO → productOf f g ≡ f
 unfolding eval
-product-whole n f g a b s e = P.unique n (productOf f g) f (product-ordered f g) s (product-below n f g a b) a
-    (λ α k. eval-product f g α ∙ at (eval f α) (eval g α) (gone α))
+product-whole f g s e = everywhere (productOf f g) f (product-ordered f g) s (λ α. eval-product f g α ∙ at (eval f α) (eval g α) (gone α))
   where
     gone : (α : ℕ) → (eval f α && (eval g α ⊕ true)) ≡ false
     gone α = sym (eval-product f (sumOf g ONE) α ∙ rw (eval-sum g ONE α, eval-one α)) ∙ ap (λ (p : List ℕ). eval p α) e
@@ -84,26 +81,15 @@ product-whole n f g a b s e = P.unique n (productOf f g) f (product-ordered f g)
     at true false h = absurd (true≢false h)
     at false y h = refl
 
-pub none-changed : (n : ℕ) (f g : List ℕ) (w : ℤ) → T (isPolynomial n f) → T (isPolynomial n g)
-    → (productOf f g ≡ ZERO) ⊎ (productOf f (sumOf g ONE) ≡ ZERO) → addAll (changes Prod f g w) [] ≡ []
-unfolding total negated
-none-changed n f g w hf hg h = C.unique (addAll (changes Prod f g w) []) [] (all-ordered (changes Prod f g w) [] tt) tt
-    (λ p k. weight-all p k (changes Prod f g w) [] ∙ go p k h)
+pub none-changed : (f g : List ℕ) (w : ℤ) → Ordered f → (productOf f g ≡ ZERO) ⊎ (productOf f (sumOf g ONE) ≡ ZERO) → addAll (changes Prod f g w) [] ≡ []
+unfolding addAll total negated
+none-changed f g w s h = same-changes (changes Prod f g w) [] [] tt (λ p k. go p k h)
   where
-    a : Below n f
-    a = polynomial-below n f hf
-
-    b : Below n g
-    b = polynomial-below n g hg
-
-    s : Sorted before f
-    s = polynomial-sorted n f hf
-
-    go : (p : List ℕ) → T (some p) → (productOf f g ≡ ZERO) ⊎ (productOf f (sumOf g ONE) ≡ ZERO) → pos 0 +ℤ weight (changes Prod f g w) p ≡ pos 0
-    go p k (inl e) = rw (e, rest-whole n f g a b s e, same-none p k, share-neg (same p f) w)
-        (solve (share (same p f) w ∷ []) (o ⊞ (⊟ (v 0) ⊞ (o ⊞ (v 0 ⊞ o)))) o tt)
-    go p k (inr e) = rw (e, product-whole n f g a b s e, same-none p k, share-neg (same p f) w)
-        (solve (share (same p f) w ∷ []) (o ⊞ (⊟ (v 0) ⊞ (v 0 ⊞ (o ⊞ o)))) o tt)
+    go : (p : List ℕ) → T (some p) → (productOf f g ≡ ZERO) ⊎ (productOf f (sumOf g ONE) ≡ ZERO) → weight (changes Prod f g w) p ≡ pos 0
+    go p k (inl e) = rw (e, rest-whole f g s e, same-none p k, share-neg (same p f) w)
+        (solve (share (same p f) w ∷ []) (⊟ (v 0) ⊞ (o ⊞ (v 0 ⊞ o))) o tt)
+    go p k (inr e) = rw (e, product-whole f g s e, same-none p k, share-neg (same p f) w)
+        (solve (share (same p f) w ∷ []) (⊟ (v 0) ⊞ (v 0 ⊞ (o ⊞ o))) o tt)
 
 -- ---- what a step that is taken passed, and what it leaves
 pub record TakenStep (r : Rule) (d : Mode) (f g : List ℕ) (w : ℤ) (L M : List Line) : Type 0 where

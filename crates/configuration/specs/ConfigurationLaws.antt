@@ -207,11 +207,21 @@ add-comm f g u w L r = unique (add f u (add g w L)) (add g w (add f u L))
     ∙ solve (weight L p ∷ share (same p f) u ∷ share (same p g) w ∷ []) (v 0 ⊞ v 2 ⊞ v 1) (v 0 ⊞ v 1 ⊞ v 2) tt
     ∙ sym (weight-add p n g w (add f u L) ∙ ap (λ (z : ℤ). z +ℤ share (same p g) w) (weight-add p n f u L)))
 
+-- two lists of changes that give each polynomial the same weight make the same lines
+pub same-changes : (C D L : List Line) → InOrder L → ((p : List ℕ) → T (some p) → weight C p ≡ weight D p) → addAll C L ≡ addAll D L
+same-changes C D L r h = unique (addAll C L) (addAll D L) (all-ordered C L r) (all-ordered D L r)
+    (λ p n. weight-all p n C L ∙ ap (λ (z : ℤ). weight L p +ℤ z) (h p n) ∙ sym (weight-all p n D L))
+
 -- folding the changes among themselves first changes nothing
 pub netted : (C L : List Line) → InOrder L → addAll (addAll C []) L ≡ addAll C L
 unfolding total
-netted C L r = unique (addAll (addAll C []) L) (addAll C L) (all-ordered (addAll C []) L r) (all-ordered C L r)
-    (λ p n. weight-all p n (addAll C []) L ∙ ap (λ (z : ℤ). weight L p +ℤ z) (weight-all p n C [] ∙ +ℤ-idl (weight C p)) ∙ sym (weight-all p n C L))
+netted C L r = same-changes (addAll C []) C L r (λ p n. weight-all p n C [] ∙ +ℤ-idl (weight C p))
+
+-- changes one list after the other
+pub changes-append : (C D L : List Line) → addAll (C ++ D) L ≡ addAll D (addAll C L)
+unfolding addAll
+changes-append [] D L = refl
+changes-append (line f w ∷ C) D L = changes-append C D (add f w L)
 
 -- ---- the test of the lines
 module _ (n : ℕ) where

@@ -7,7 +7,6 @@ use native.Mathlib.Omega.{arith}
 use lib.Dec.{T, eqb, eqb→eq}
 use lib.Bits.{bitOr}
 use lib.ListN.{length, take, drop, replicate}
-use lib.Pow.{pow-pos}
 use lib.Seq.{take-at}
 use borrow.Author.Tests.{le-leb, lt-leb}
 use Rattle.term.specs.Term.{value, before}
@@ -16,7 +15,7 @@ use Rattle.term.specs.TermLaws.{value-or, value-one, value-self}
 use Rattle.term.specs.OrderLaws.{before-irrefl, before-trans, before-total, value-before}
 use Rattle.run.specs.F2.{_⊕_}
 use Rattle.run.specs.F2Laws.{⊕-assoc, ⊕-left, ⊕-cancel, ⊕-self, ⊕-zero, &&-⊕, ⊕-&&}
-use Rattle.run.specs.Run.{StrictOrder, toggleBy, normalBy, After, odd}
+use Rattle.run.specs.Run.{StrictOrder, toggleBy, normalBy, After, All, odd}
 use Rattle.run.specs.RunLaws.{odd-append, odd-normal, odd-unique, normal-all, normal-sorted, all-append}
 use Rattle.mask.specs.Mask.{unions, Uses}
 use Rattle.mask.specs.MaskLaws.{unions-uses, uses-below, below-uses}
@@ -104,30 +103,42 @@ unfolding lastOr eval
 eval-last t [] s = ap (λ (x : Bool). x ⊕ false) (is-true (value t t) (value-self t))
 eval-last t (u ∷ f) s = rw (value-before t (lastOr u f) (before-last t u f (s .0))) (eval-last u f (s .1))
 
-last-below : (n t : ℕ) (f : List ℕ) → Below n (t ∷ f) → lastOr t f < 2 ^ n
+last-all : (D : ℕ → Type 0) (t : ℕ) (f : List ℕ) → All D (t ∷ f) → D (lastOr t f)
 unfolding lastOr
-last-below n t [] b = b .0
-last-below n t (u ∷ f) b = last-below n u f (b .1)
+last-all D t [] a = a .0
+last-all D t (u ∷ f) a = last-all D u f (a .1)
 
--- a polynomial of n variables that is 0 at every assignment of them is 0
-zero-unique : (n : ℕ) (f : List ℕ) → Ordered f → Below n f → ((α : ℕ) → α < 2 ^ n → eval f α ≡ false) → f ≡ []
-zero-unique n [] s b h = refl
-zero-unique n (t ∷ f) s b h = absurd (true≢false (sym (eval-last t f s) ∙ h (lastOr t f) (last-below n t f b)))
+-- of polynomials whose terms all have D, the assignments that have D tell them apart: the last term of one, as an assignment, is among these
+module _ (D : ℕ → Type 0) where
+  zero-within : (f : List ℕ) → Ordered f → All D f → ((α : ℕ) → D α → eval f α ≡ false) → f ≡ []
+  zero-within [] s a h = refl
+  zero-within (t ∷ f) s a h = absurd (true≢false (sym (eval-last t f s) ∙ h (lastOr t f) (last-all D t f a)))
+
+  unique-within : (f g : List ℕ) → Ordered f → Ordered g → All D f → All D g → ((α : ℕ) → D α → eval f α ≡ eval g α) → f ≡ g
+  unfolding odd
+  unique-within f g s r a b h = odd-unique before written f g s r
+      (λ t. ⊕-zero (odd t f) (odd t g) (sym (odd-append t f g) ∙ sym (odd-normal before t (f ++ g)) ∙ ap (odd t) nought))
+    where
+      nought : sumOf f g ≡ []
+      nought = zero-within (sumOf f g) (sum-ordered f g) (normal-all before D (f ++ g) (all-append D f g a b))
+          (λ α k. eval-sum f g α ∙ rw (h α k) (⊕-self (eval g α)))
 
 -- two polynomials of n variables that agree at every assignment of them are one
 pub unique : (n : ℕ) (f g : List ℕ) → Ordered f → Ordered g → Below n f → Below n g → ((α : ℕ) → α < 2 ^ n → eval f α ≡ eval g α) → f ≡ g
-unfolding odd
-unique n f g s r a b h = odd-unique before written f g s r
-    (λ t. ⊕-zero (odd t f) (odd t g) (sym (odd-append t f g) ∙ sym (odd-normal before t (f ++ g)) ∙ ap (odd t) nought))
+unique n = unique-within (λ t. t < 2 ^ n)
+
+-- two polynomials, of any variables, that agree everywhere are one
+pub everywhere : (f g : List ℕ) → Ordered f → Ordered g → ((α : ℕ) → eval f α ≡ eval g α) → f ≡ g
+everywhere f g s r h = unique-within (λ t. Unit {0}) f g s r (any f) (any g) (λ α k. h α)
   where
-    nought : sumOf f g ≡ []
-    nought = zero-unique n (sumOf f g) (sum-ordered f g) (sum-below n f g a b) (λ α k. eval-sum f g α ∙ rw (h α k) (⊕-self (eval g α)))
+    any : (l : List ℕ) → All (λ t. Unit {0}) l
+    any [] = tt
+    any (t ∷ l) = (tt, any l)
 
 -- f (g + 1) is f g + f
-pub product-plus-one : (n : ℕ) (f g : List ℕ) → Below n f → Below n g → productOf f (sumOf g ONE) ≡ sumOf (productOf f g) f
-product-plus-one n f g a b = unique n (productOf f g₁) (sumOf (productOf f g) f) (product-ordered f g₁) (sum-ordered (productOf f g) f)
-    (product-below n f g₁ a (sum-below n g ONE b (pow-pos n, tt))) (sum-below n (productOf f g) f (product-below n f g a b) a)
-    (λ α k. eval-product f g₁ α ∙ rw (eval-sum g ONE α, eval-one α, eval-sum (productOf f g) f α, eval-product f g α) (at (eval f α) (eval g α)))
+pub product-plus-one : (f g : List ℕ) → productOf f (sumOf g ONE) ≡ sumOf (productOf f g) f
+product-plus-one f g = everywhere (productOf f g₁) (sumOf (productOf f g) f) (product-ordered f g₁) (sum-ordered (productOf f g) f)
+    (λ α. eval-product f g₁ α ∙ rw (eval-sum g ONE α, eval-one α, eval-sum (productOf f g) f α, eval-product f g α) (at (eval f α) (eval g α)))
   where
     g₁ : List ℕ
     g₁ = sumOf g ONE
@@ -138,9 +149,9 @@ product-plus-one n f g a b = unique n (productOf f g₁) (sumOf (productOf f g) 
     at false y = refl
 
 -- g f is f g
-pub product-turned : (n : ℕ) (f g : List ℕ) → Below n f → Below n g → productOf g f ≡ productOf f g
-product-turned n f g a b = unique n (productOf g f) (productOf f g) (product-ordered g f) (product-ordered f g) (product-below n g f b a) (product-below n f g a b)
-    (λ α k. eval-product g f α ∙ and-comm (eval g α) (eval f α) ∙ sym (eval-product f g α))
+pub product-turned : (f g : List ℕ) → productOf g f ≡ productOf f g
+product-turned f g = everywhere (productOf g f) (productOf f g) (product-ordered g f) (product-ordered f g)
+    (λ α. eval-product g f α ∙ and-comm (eval g α) (eval f α) ∙ sym (eval-product f g α))
 
 -- ---- a polynomial by value has the terms that it was made of
 pub terms-of : (l : List ℕ) (p : Polynomial) → p ≡ polynomialOf l → termsOf p ≡ l

@@ -2,7 +2,7 @@
 -- any order, make the same.
 use mathlib.Core.Path.{_≡_, refl, sym, ap, ap₂, subst, _∙_}
 use mathlib.Core.Bool.{Bool, true, false, cond, not, _&&_, Bool·beq, true≢false}
-use mathlib.Core.List.{List, [], _∷_, _++_}
+use mathlib.Core.List.{List, [], _∷_}
 use Prim.Native.Nat.{ℕ, zero, suc, _+_, _^_, _≤_, _<_}
 use native.Mathlib.Omega.{arith}
 use lib.Signed.{leZ}
@@ -16,7 +16,7 @@ use Rattle.polynomial.specs.ClauseLaws.{clause-ordered, clause-below}
 use Rattle.configuration.specs.Weight.{isZero, isNegative, share}
 use Rattle.configuration.specs.Configuration.{lineFits, Line, line, some, same, total, weight, keep, fold, add, addAll, Every, isPolynomial, linesFit, weightsFit, anyNegative, isConfiguration}
 use Rattle.configuration.specs.SumLaws.{solve, v, _⊞_}
-use Rattle.configuration.specs.ConfigurationLaws.{fit-head, fit-tail, order-ind, same-is, same-self, same-none, weight-all, all-ordered, unique, all-fit}
+use Rattle.configuration.specs.ConfigurationLaws.{fit-head, fit-tail, order-ind, same-is, same-self, same-none, same-changes, changes-append, all-fit}
 use Rattle.configuration.specs.LineLaws.{polynomial-below, polynomial-sorted, polynomial-is, none-polynomial, sum-sign, every-append, every-map, configuration-parts, parts-configuration}
 use Rattle.configuration.specs.Made.{Made}
 use Rattle.configuration.specs.Limits.{within}
@@ -116,18 +116,13 @@ record-lines s p q f e =
     rw e at (record-ind s p (λ C r. IfAccepted (λ q. (q .state .lines ≡ addAll C (p .state .lines)) × T (q .state .started)) r)
     (λ C n. tt) (λ h i j. (sym (f h), tt)) (λ t h i j k. (refl, tt)) (λ w h i j k l. (refl, tt)) (λ a b w h i j k l m n o. (refl, tt)))
 
-all-append : (C D L : List Line) → addAll (C ++ D) L ≡ addAll D (addAll C L)
-unfolding addAll
-all-append [] D L = refl
-all-append (line f w ∷ C) D L = all-append C D (add f w L)
-
 pub filing-lines : (k : ℕ) (s : List ℕ) (p : Progress State) → NoneYet (p .state)
     → (walk filing k s p) .reached .state .lines ≡ addAll (gathered filing entryOf k s p) (p .state .lines)
 unfolding addAll
 filing-lines k s = walk-ind filing entryOf (λ p F C. NoneYet (p .state) → F .reached .state .lines ≡ addAll C (p .state .lines)) s (λ p f. refl) (λ p n e f. refl)
     (λ p q F C e rest f.
     let d : (q .state .lines ≡ addAll (entryOf s p) (p .state .lines)) × T (q .state .started) = record-lines s p q f e in
-    rest (λ h. absurd (no-more (q .state .started) (d .1) h)) ∙ ap (addAll C) (d .0) ∙ sym (all-append (entryOf s p) C (p .state .lines))) k
+    rest (λ h. absurd (no-more (q .state .started) (d .1) h)) ∙ ap (addAll C) (d .0) ∙ sym (changes-append (entryOf s p) C (p .state .lines))) k
 
 -- ---- signs: a positive amount makes no line negative
 filing-sign : (w : ℤ) → T (weightFits w) → isNegative w ≡ false
@@ -315,8 +310,7 @@ module _ (n : ℕ) (C D : List Line) (c : Every (λ f. T (isPolynomial n f)) C) 
       go false e = weight-foreign n p C e c ∙ sym (weight-foreign n p D e d)
 
   pub same-sum : addAll C [] ≡ addAll D []
-  same-sum = unique (addAll C []) (addAll D []) (all-ordered C [] tt) (all-ordered D [] tt)
-      (λ p s. weight-all p s C [] ∙ ap (λ (z : ℤ). weight [] p +ℤ z) (same-weight p s) ∙ sym (weight-all p s D []))
+  same-sum = same-changes C D [] tt same-weight
 
 -- ---- the entries are polynomials of the variables that are filed
 abbrev pub Fitting : ℕ → List Line → Type 0

@@ -1,23 +1,21 @@
--- Operands as they are lent; whether a result is short enough; changes that are folded one by one into a table of four; and what a plan promises of it, and a replacement by it.
+-- Whether a result is short enough; changes that are folded one by one into a table of four; and what a plan promises of it, and a replacement by it.
 use mathlib.Core.Path.{_≡_, refl, sym, ap, _∙_}
 use mathlib.Core.Logic.{_⊎_, inl, inr}
 use mathlib.Core.Bool.{Bool, true, false, cond}
 use mathlib.Core.List.{List, [], _∷_, _++_}
 use Prim.Native.Nat.{ℕ, _≤_, _<_, _^_}
 use native.Mathlib.Omega.{arith}
-use lib.Dec.{T, leb, le→leb}
+use lib.Dec.{T, leb}
 use lib.IntN.{ℤ, _+ℤ_}
-use lib.ListN.{length, take, getD, length-take}
+use lib.ListN.{length, take, length-take}
 use lib.Signed.{mag}
 use borrow.Author.Tests.{le-leb, lt-leb}
 use Rattle.refusal.specs.Outcome.{after}
-use Rattle.polynomial.specs.Polynomial.{ZERO, ONE, sumOf, productOf, Below}
+use Rattle.polynomial.specs.Polynomial.{ZERO, ONE, sumOf, productOf, Ordered}
 use Rattle.polynomial.specs.PolynomialLaws.{product-plus-one}
-use Rattle.polynomial.proofs.Keys.{below-each}
 use Rattle.configuration.specs.Weight.{inRange}
-use Rattle.configuration.specs.Configuration.{Line, line, weight, add, addAll, negated, InOrder, isPolynomial}
+use Rattle.configuration.specs.Configuration.{Line, line, weight, add, addAll, negated, InOrder}
 use Rattle.configuration.specs.ConfigurationLaws.{all-ordered, netted}
-use Rattle.configuration.specs.LineLaws.{polynomial-is}
 use Rattle.configuration.specs.Limits.{within}
 use Rattle.replacement.specs.Passes.{Small}
 use Rattle.configuration.specs.WeightLaws.{mag-add}
@@ -29,12 +27,8 @@ use Rattle.calculus.specs.declared.Rule.{Rule}
 use Rattle.calculus.specs.declared.Rule.the-variants.{Sum, Prod}
 use Rattle.table.specs.Rows.{Table, linesOf, capacityOf, Fits, Holds}
 use Rattle.table.specs.RowsLaws.{of-capacity, to-capacity}
-use Rattle.step.specs.Stepping.{Operand, HasPlan}
+use Rattle.step.specs.Stepping.{HasPlan}
 use Rattle.step.proofs.Amounts.{small-changes}
-
--- ---- an operand is a polynomial of 32 variables
-pub operand-is : (f : List ℕ) → Operand f → ((i : ℕ) → getD f i 0 < 2 ^ 32) → T (isPolynomial 32 f)
-operand-is f o b = polynomial-is 32 f (le→leb (length f) 64 (o .0)) (below-each f (λ i h. b i)) (o .1)
 
 -- ---- whether an exact result l, of r terms, is short enough
 module _ (r : ℕ) (l : List ℕ) (e : r ≡ length l) where
@@ -49,8 +43,8 @@ pub room : (l area : List ℕ) (r : ℕ) → (r ≡ length l) × (r ≤ 64 → t
 room l area r told h = omega (arith, told .0, ap length (told .1 h), length-take r area)
 
 -- f g + f, worked out from f g, is f (g + 1)
-pub plus-one : (f g p : List ℕ) → Below 32 f → Below 32 g → p ≡ productOf f g → sumOf p f ≡ productOf f (sumOf g ONE)
-plus-one f g p a b h = ap (λ (x : List ℕ). sumOf x f) h ∙ sym (product-plus-one 32 f g a b)
+pub plus-one : (f g p : List ℕ) → p ≡ productOf f g → sumOf p f ≡ productOf f (sumOf g ONE)
+plus-one f g p h = ap (λ (x : List ℕ). sumOf x f) h ∙ sym (product-plus-one f g)
 
 -- ---- changes folded one by one
 -- a table of four has the changes C, none of them large
@@ -99,10 +93,10 @@ no-terms : (l : List ℕ) → length l ≡ 0 → l ≡ ZERO
 no-terms [] e = refl
 no-terms (t ∷ l) e = let z : ⊥ = omega arith in absurd z
 
-pub made-none : (f g : List ℕ) (w : ℤ) {t : Table} → Folded [] t → T (isPolynomial 32 f) → T (isPolynomial 32 g) → allShort (conclusions Prod f g w) ≡ true
+pub made-none : (f g : List ℕ) (w : ℤ) {t : Table} → Folded [] t → Ordered f → allShort (conclusions Prod f g w) ≡ true
     → (length (productOf f g) ≡ 0) ⊎ (length (productOf f (sumOf g ONE)) ≡ 0) → HasPlan Prod f g w true t
 unfolding addAll
-made-none f g w k hf hg d h = (sym d, (k .holds .0 ∙ rw d (sym (none-changed 32 f g w hf hg (go h))), k .holds .1))
+made-none f g w k s d h = (sym d, (k .holds .0 ∙ rw d (sym (none-changed f g w s (go h))), k .holds .1))
   where
     go : (length (productOf f g) ≡ 0) ⊎ (length (productOf f (sumOf g ONE)) ≡ 0) → (productOf f g ≡ ZERO) ⊎ (productOf f (sumOf g ONE) ≡ ZERO)
     go (inl e) = inl (no-terms (productOf f g) e)

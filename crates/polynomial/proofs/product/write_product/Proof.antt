@@ -11,7 +11,7 @@ use Rattle.mask.specs.MaskLaws.{length-unions}
 use Rattle.polynomial.specs.Polynomial.{placed}
 use Rattle.polynomial.specs.PolynomialLaws.{product-turned}
 use Rattle.polynomial.specs.ToggleLaws.{normal-short}
-use Rattle.polynomial.proofs.Keys.{most-products, below-each, run-written}
+use Rattle.polynomial.proofs.Keys.{most-products, run-written}
 use Rattle.polynomial.proofs.product.write_product.Statement.{statement}
 use Rattle.polynomial.proofs.product.write_product.Tie as tie
 
@@ -61,9 +61,7 @@ returns-2 c =
     let s = c .before .before .before .before .before .before .before .before .before in
     let f = s .args .f .now in
     let g = s .args .g .now in
-    let below-f = below-each f (λ i h. omega (arith, c .before .before .before .before .before .before .before .before .shared-slice-known .given i)) in
-    let below-g = below-each g (λ i h. omega (arith, c .before .before .before .before .before .before .before .shared-slice-known2 .given i)) in
-    let e = product-turned 32 f g below-f below-g in
+    let e = product-turned f g in
     let p = c .before .before .long-product in
     (p .ensures .0 ∙ ap length e, p .ensures .1 ∙ ap (λ (l : List ℕ). placed l (s .args .out .now)) e)
 

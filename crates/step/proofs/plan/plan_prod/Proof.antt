@@ -6,7 +6,7 @@ use mathlib.Core.Bool.{true, false}
 use mathlib.Core.List.{List}
 use Prim.Native.Nat.{ℕ, _≤_}
 use native.Mathlib.Omega.{arith}
-use lib.Dec.{T, leb}
+use lib.Dec.{leb}
 use lib.IntN.{pos, _-ℤ_, negℤ}
 use lib.ListN.{length, take}
 use lib.Seq.{length-take-le}
@@ -17,15 +17,14 @@ use mir.Facts.{toZ-ofZ}
 use borrow.Author.Needs.{needs}
 use Rattle.polynomial.specs.Polynomial.{ONE, sumOf, productOf}
 use Rattle.polynomial.specs.PolynomialLaws.{exact}
-use Rattle.configuration.specs.Configuration.{Line, isPolynomial, negated}
-use Rattle.configuration.specs.LineLaws.{polynomial-below}
+use Rattle.configuration.specs.Configuration.{Line, negated}
 use Rattle.replacement.specs.Passes.{Small}
 use Rattle.calculus.specs.Calculus.{conclusions, changes, allShort}
 use Rattle.calculus.specs.declared.Rule.the-variants.{Prod}
 use Rattle.table.specs.Rows.{Table}
 use Rattle.step.specs.Stepping.{HasPlan}
 use Rattle.step.proofs.Amounts.{negated-fits, negated-is, small-changes}
-use Rattle.step.proofs.Plans.{operand-is, room, long, short, plus-one, Folded, folded-none, fold-asked, fold-given, made, made-none}
+use Rattle.step.proofs.Plans.{room, long, short, plus-one, Folded, folded-none, fold-asked, fold-given, made, made-none}
 use Rattle.step.proofs.plan.plan_prod.Statement.{statement}
 use Rattle.step.proofs.plan.plan_prod.Tie as tie
 
@@ -70,12 +69,6 @@ product s = productOf (left s) (right s)
 abbrev rest : tie.Start → List ℕ
 rest s = productOf (left s) (sumOf (right s) ONE)
 
-left-polynomial : (c : tie.Else1) → T (isPolynomial 32 (left (opened c)))
-left-polynomial c = let s = opened c in operand-is (left s) (s .pre .0) (λ i. c .before .before .before .before .before .before .before .shared-slice-known .given i .fits)
-
-right-polynomial : (c : tie.Else1) → T (isPolynomial 32 (right (opened c)))
-right-polynomial c = let s = opened c in operand-is (right s) (s .pre .1) (λ i. c .before .before .before .before .before .before .shared-slice-known2 .given i .fits)
-
 -- f g, as it is answered
 told-product : (c : tie.After-product2)
     → (let s = c .before .before .before .before .before .before .before in let k = c .product2 in
@@ -95,9 +88,7 @@ product-is : (c : tie.Else1) → lent c ≡ product (opened c)
 product-is c = told-product (c .before) .1 (c .if1 .left)
 
 rest-is : (c : tie.Else1) → sumOf (lent c) (left (opened c)) ≡ rest (opened c)
-rest-is c =
-    let s = opened c in
-    plus-one (left s) (right s) (lent c) (polynomial-below 32 (left s) (left-polynomial c)) (polynomial-below 32 (right s) (right-polynomial c)) (product-is c)
+rest-is c = let s = opened c in plus-one (left s) (right s) (lent c) (product-is c)
 
 -- f g + f, as it is answered
 told-rest : (c : tie.After-sum)
@@ -126,7 +117,7 @@ fits c = rw (product-short (past c), short (c .before .sum .result) (rest (begun
 -- where one of them is 0 nothing changes
 nothing : (c : tie.Else2)
     → (let s = begun c in (length (product s) ≡ 0) ⊎ (length (rest s) ≡ 0) → HasPlan Prod (left s) (right s) (s .args .amount) true (table s))
-nothing c = let s = begun c in made-none (left s) (right s) (s .args .amount) (none s) (left-polynomial (past c)) (right-polynomial (past c)) (fits c)
+nothing c = let s = begun c in made-none (left s) (right s) (s .args .amount) (none s) (s .pre .0 .1) (fits c)
 
 -- ---- the table after each change
 abbrev at-one : tie.After-fold-in → tie.Else2
