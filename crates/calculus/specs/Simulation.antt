@@ -1,0 +1,37 @@
+-- SUM in signed mode by PROD alone. Document 004, Lemma 4.5: "Using weights in Z, and the structural substitution rules, the SUM rule can simulate the PROD rule and vice versa." Its proof,
+-- from [f, w] and [g, w], with f + g at w and at -w unfolded out of nothing: PROD of f + g by f at -w leaves [f (f + g), -w] and [g (f + 1), -w]; PROD of g by f takes the latter back and leaves
+-- [g f, w]; PROD of f, by f + g there and by g in document 02, takes the former back and leaves "[fg, 2w] [f + g, w]". Document 02, Ask 11, has the three in the order below.
+use mathlib.Core.Path.{_≡_}
+use mathlib.Core.List.{List, [], _∷_}
+use Prim.Native.Nat.{ℕ}
+use lib.IntN.{ℤ, negℤ}
+use Rattle.refusal.specs.Outcome.{accepted}
+use Rattle.polynomial.specs.Polynomial.{sumOf}
+use Rattle.configuration.specs.Configuration.{Line, addAll}
+use Rattle.calculus.specs.Calculus.{changes, directStep}
+use Rattle.calculus.specs.declared.Rule.{Rule}
+use Rattle.calculus.specs.declared.Rule.the-variants.{Sum, Prod}
+use Rattle.calculus.specs.declared.Mode.the-variants.{Signed}
+
+-- an application of a rule: f, g and the amount
+pub data Application : Type 0 where
+  apply : Rule → List ℕ → List ℕ → ℤ → Application
+
+-- "signed SUM of f and g with w"
+abbrev pub bySum : List ℕ → List ℕ → ℤ → List Application
+bySum f g w = apply Sum f g w ∷ []
+
+-- "PROD of f + g by f with −w, PROD of f by g with w, and PROD of g by f with w"
+abbrev pub byProds : List ℕ → List ℕ → ℤ → List Application
+byProds f g w = apply Prod (sumOf f g) f (negℤ w) ∷ apply Prod f g w ∷ apply Prod g f w ∷ []
+
+-- the lines that applications, one after the other, leave without limits: the changes of each folded in
+unfoldable pub applied : List Application → List Line → List Line
+applied [] L = L
+applied (apply r f g w ∷ more) L = applied more (addAll (changes r f g w) L)
+
+-- each of them is taken as a direct step in signed mode, on the lines of n variables that those before it leave
+abbrev pub AllAccepted : ℕ → List Application → List Line → Type 0
+AllAccepted n [] L = Unit {0}
+AllAccepted n (apply r f g w ∷ more) L =
+    let M = addAll (changes r f g w) L in (directStep r Signed f g w n L ≡ accepted M) × AllAccepted n more M
