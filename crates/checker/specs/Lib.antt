@@ -7,5 +7,6 @@ pub mod Refused
 pub mod OneListing
 pub mod CostRule
 pub mod Layouts
+pub mod SumFromProds
 pub mod LeftForm
 pub mod DeskTable
