@@ -22,7 +22,7 @@ use Rattle.run.specs.Run.{sorted, Sorted}
 use Rattle.run.specs.RunLaws.{normal-id}
 use Rattle.term.specs.Term.{before}
 use Rattle.polynomial.specs.Polynomial.{ZERO, ONE, eval, sumOf, productOf, Ordered, Below}
-use Rattle.polynomial.specs.PolynomialLaws.{written, eval-sum, eval-product, eval-one, sum-ordered, product-ordered, sum-below, product-below, everywhere, product-plus-one}
+use Rattle.polynomial.specs.PolynomialLaws.{written, eval-sum, eval-product, eval-one, sum-ordered, product-ordered, sum-below, product-below, unique-everywhere, product-plus-one}
 use Rattle.configuration.specs.Weight.{isNegative, share}
 use Rattle.configuration.specs.Configuration.{Line, line, some, same, total, cost, weight, addAll, negated, InOrder, Every, below, isPolynomial, linesFit, weightsFit, isConfiguration, anyNegative}
 use Rattle.configuration.specs.SumLaws.{share-neg, solve, o, v, _⊞_, ⊟}
@@ -71,7 +71,7 @@ rest-whole f g s e = product-plus-one f g ∙ ap (λ (p : List ℕ). sumOf p f) 
 
 product-whole : (f g : List ℕ) → Ordered f → productOf f (sumOf g ONE) ≡ ZERO → productOf f g ≡ f
 unfolding eval
-product-whole f g s e = everywhere (productOf f g) f (product-ordered f g) s (λ α. eval-product f g α ∙ at (eval f α) (eval g α) (gone α))
+product-whole f g s e = unique-everywhere (productOf f g) f (product-ordered f g) s (λ α. eval-product f g α ∙ at (eval f α) (eval g α) (gone α))
   where
     gone : (α : ℕ) → (eval f α && (eval g α ⊕ true)) ≡ false
     gone α = sym (eval-product f (sumOf g ONE) α ∙ rw (eval-sum g ONE α, eval-one α)) ∙ ap (λ (p : List ℕ). eval p α) e

@@ -1,6 +1,11 @@
--- SUM in signed mode by PROD alone. Document 004, Lemma 4.5: "Using weights in Z, and the structural substitution rules, the SUM rule can simulate the PROD rule and vice versa." Its proof,
--- from [f, w] and [g, w], with f + g at w and at -w unfolded out of nothing: PROD of f + g by f at -w leaves [f (f + g), -w] and [g (f + 1), -w]; PROD of g by f takes the latter back and leaves
--- [g f, w]; PROD of f, by f + g there and by g in document 02, takes the former back and leaves "[fg, 2w] [f + g, w]". Document 02, Ask 11, has the three in the order below.
+-- SUM in signed mode by PROD alone. Document 004, Lemma 4.5: "Using weights in Z, and the structural substitution rules, the SUM rule can simulate the PROD rule and vice versa." Its proof of the one,
+-- where every line after the second is that of a PROD, folded:
+--     [f, w] [g, w]
+--     [f, w] [g, w] [f + g, w] [f + g, −w]                          unfolded
+--     [f, w] [g, w] [f + g, w] [f (f + g), −w] [g (f + 1), −w]      of f + g by f
+--     [f, w] [g f, w] [f + g, w] [f (f + g), −w]                    of g by f
+--     [f g, 2w] [f + g, w]                                          of f by f + g
+-- Document 02, Ask 11, takes the PROD of f before that of g, and by g: f g is f (f + g + 1), and f (g + 1) is f (f + g), so that it gives the same two polynomials.
 use mathlib.Core.Path.{_≡_}
 use mathlib.Core.List.{List, [], _∷_}
 use Prim.Native.Nat.{ℕ}

@@ -1,5 +1,5 @@
 -- SUM adds nothing to PROD in signed mode (document 02, Ask 11): the three PRODs leave the lines that SUM leaves, and where all three are within their limits so is SUM. Nothing is asked of the
--- lengths of f and g, nor of the order of their terms.
+-- lengths of f and g, nor of the order of their terms, so that both hold of those in written order, of any length.
 use mathlib.Core.Path.{_≡_, refl, sym, ap, _∙_}
 use mathlib.Core.Bool.{Bool, true, false, _&&_}
 use mathlib.Core.List.{List, [], _∷_, _++_}
@@ -11,7 +11,7 @@ use Rattle.run.specs.BooleanLaws.{of-true, is-true, left}
 use Rattle.run.specs.F2.{_⊕_}
 use Rattle.refusal.specs.Tests.{AllPassed}
 use Rattle.polynomial.specs.Polynomial.{ONE, eval, sumOf, productOf}
-use Rattle.polynomial.specs.PolynomialLaws.{eval-sum, eval-product, eval-one, product-ordered, product-turned, everywhere}
+use Rattle.polynomial.specs.PolynomialLaws.{eval-sum, eval-product, eval-one, product-ordered, product-turned, unique-everywhere}
 use Rattle.configuration.specs.Weight.{share}
 use Rattle.configuration.specs.Configuration.{Line, same, total, weight, addAll, negated, InOrder, weightsFit}
 use Rattle.configuration.specs.SumLaws.{share-neg, share-add, solve, o, v, _⊞_, ⊟}
@@ -33,7 +33,7 @@ module _ (f g : List ℕ) where
 
   -- (f + g) f is f (g + 1)
   sum-by-first : productOf (sumOf f g) f ≡ productOf f g₁
-  sum-by-first = everywhere (productOf (sumOf f g) f) (productOf f g₁) (product-ordered (sumOf f g) f) (product-ordered f g₁)
+  sum-by-first = unique-everywhere (productOf (sumOf f g) f) (productOf f g₁) (product-ordered (sumOf f g) f) (product-ordered f g₁)
       (λ α. eval-product (sumOf f g) f α ∙ rw (eval-sum f g α, eval-product f g₁ α, eval-sum g ONE α, eval-one α) (at (eval f α) (eval g α)))
     where
       at : (x y : Bool) → ((x ⊕ y) && x) ≡ (x && (y ⊕ true))
@@ -44,7 +44,7 @@ module _ (f g : List ℕ) where
 
   -- (f + g) (f + 1) is g (f + 1)
   sum-by-rest : productOf (sumOf f g) f₁ ≡ productOf g f₁
-  sum-by-rest = everywhere (productOf (sumOf f g) f₁) (productOf g f₁) (product-ordered (sumOf f g) f₁) (product-ordered g f₁)
+  sum-by-rest = unique-everywhere (productOf (sumOf f g) f₁) (productOf g f₁) (product-ordered (sumOf f g) f₁) (product-ordered g f₁)
       (λ α. eval-product (sumOf f g) f₁ α ∙ rw (eval-sum f g α, eval-product g f₁ α, eval-sum f ONE α, eval-one α) (at (eval f α) (eval g α)))
     where
       at : (x y : Bool) → ((x ⊕ y) && (x ⊕ true)) ≡ (y && (x ⊕ true))
@@ -72,31 +72,30 @@ same-weights f g w p =
     (⊟ (v 0) ⊞ (⊟ (v 1) ⊞ (v 2 ⊞ (v 3 ⊞ v 3 ⊞ o))))
     (⊟ (⊟ (v 2)) ⊞ (⊟ (v 4) ⊞ (⊟ (v 5) ⊞ (⊟ (v 0) ⊞ (v 3 ⊞ (v 4 ⊞ (⊟ (v 1) ⊞ (v 3 ⊞ (v 5 ⊞ o))))))))) tt)
 
-module _ (f g : List ℕ) (w : ℤ) (L : List Line) (ordered : InOrder L) where
-  -- ---- without limits
-  pub sum-by-prods : applied (bySum f g w) L ≡ applied (byProds f g w) L
-  sum-by-prods =
-      applied-changes (bySum f g w) L ∙ same-changes (changesOf (bySum f g w)) (changesOf (byProds f g w)) L ordered (λ p n. same-weights f g w p)
-      ∙ sym (applied-changes (byProds f g w) L)
+-- ---- without limits: any polynomials, any whole number, any configuration
+pub sum-by-prods : (f g : List ℕ) (w : ℤ) (L : List Line) → InOrder L → applied (bySum f g w) L ≡ applied (byProds f g w) L
+sum-by-prods f g w L h =
+    applied-changes (bySum f g w) L ∙ same-changes (changesOf (bySum f g w)) (changesOf (byProds f g w)) L h (λ p n. same-weights f g w p)
+    ∙ sym (applied-changes (byProds f g w) L)
 
-  -- ---- within the limits
-  -- The tests of SUM are passed: of f, g and the amount the second PROD makes the same ones; f + g is an operand of the first, and f g a conclusion of the second; the lines that result are those of the third.
-  pub sum-accepted : (n : ℕ) → AllAccepted n (byProds f g w) L → AllAccepted n (bySum f g w) L
-  unfolding applied allShort
-  sum-accepted n a =
-      let p : _ = direct-decided Prod Signed (sumOf f g) f (negℤ w) n L .if-taken _ (a .0) .0 in
-      let q : _ = direct-decided Prod Signed f g w n _ .if-taken _ (a .1 .0) .0 in
-      let s : _ = direct-decided Prod Signed g f w n _ .if-taken _ (a .1 .1 .0) .0 in
-      let amount : _ = q .1 .1 .1 .1 .0 in
-      let limits : _ = s .1 .1 .1 .1 .1 .1 .1 in
-      let lines : _ = ap (λ (M : List Line). leb (length M) 128) sum-by-prods ∙ limits .0 in
-      let weights : _ = ap weightsFit sum-by-prods ∙ limits .1 .0 in
-      let passed : AllPassed (directTests Sum Signed f g w n L) =
-      (q .0, (q .1 .0, (q .1 .1 .0, (refl, (amount, (refl, (short (p .0) (q .1 .1 .1 .1 .1 .1 .0), (lines, (weights, tt))))))))) in
-      (direct-decided Sum Signed f g w n L .if-passed passed, tt)
-    where
-      short : (leb (length (sumOf f g)) 64 && leb (length f) 64) ≡ true → allShort (conclusions Prod f g w) ≡ true → allShort (conclusions Sum f g w) ≡ true
-      short h k = rw (
-        is-true (leb (length (sumOf f g)) 64) (left (leb (length (sumOf f g)) 64) (leb (length f) 64) (of-true h)),
-        is-true (leb (length (productOf f g)) 64) (left (leb (length (productOf f g)) 64) (leb (length (productOf f (sumOf g ONE))) 64 && true) (of-true k)),
-      )
+-- ---- within the limits: SUM passes its tests. Those of f, g and the amount are the second PROD's too; f + g is an operand of the first, f g a conclusion of the second; the lines that result are
+-- those of the third.
+pub sum-accepted : (f g : List ℕ) (w : ℤ) (n : ℕ) (L : List Line) → InOrder L → AllAccepted n (byProds f g w) L → AllAccepted n (bySum f g w) L
+unfolding applied allShort
+sum-accepted f g w n L h a =
+    let first : _ = direct-decided Prod Signed (sumOf f g) f (negℤ w) n L .if-taken _ (a .0) .0 in
+    let second : _ = direct-decided Prod Signed f g w n _ .if-taken _ (a .1 .0) .0 in
+    let third : _ = direct-decided Prod Signed g f w n _ .if-taken _ (a .1 .1 .0) .0 in
+    let amount : _ = second .1 .1 .1 .1 .0 in
+    let results : _ = short (first .0) (second .1 .1 .1 .1 .1 .1 .0) in
+    let lines : _ = ap (λ (M : List Line). leb (length M) 128) (sum-by-prods f g w L h) ∙ third .1 .1 .1 .1 .1 .1 .1 .0 in
+    let weights : _ = ap weightsFit (sum-by-prods f g w L h) ∙ third .1 .1 .1 .1 .1 .1 .1 .1 .0 in
+    let passed : AllPassed (directTests Sum Signed f g w n L) =
+    (second .0, (second .1 .0, (second .1 .1 .0, (refl, (amount, (refl, (results, (lines, (weights, tt))))))))) in
+    (direct-decided Sum Signed f g w n L .if-passed passed, tt)
+  where
+    short : (leb (length (sumOf f g)) 64 && leb (length f) 64) ≡ true → allShort (conclusions Prod f g w) ≡ true → allShort (conclusions Sum f g w) ≡ true
+    short h k = rw (
+      is-true (leb (length (sumOf f g)) 64) (left (leb (length (sumOf f g)) 64) (leb (length f) 64) (of-true h)),
+      is-true (leb (length (productOf f g)) 64) (left (leb (length (productOf f g)) 64) (leb (length (productOf f (sumOf g ONE))) 64 && true) (of-true k)),
+    )

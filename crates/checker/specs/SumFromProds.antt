@@ -82,25 +82,27 @@ all-taken (apply r f g w ∷ more) m h a =
     M = addAll (changes r f g w) (standingOf m)
 
 -- ---- the theorems
-module _ (f g : List ℕ) (w : ℤ) (m : Memory) where
-  well : AllTaken (byProds f g w) m → T (wellFormed m)
-  well a = taken-well Prod (sumOf f g) f (negℤ w) m (a .0)
+module _ (f g : List ℕ) (w : ℤ) (m : Memory) (a : AllTaken (byProds f g w) m) where
+  prods-well : T (wellFormed m)
+  prods-well = taken-well Prod (sumOf f g) f (negℤ w) m (a .0)
 
-  ordered : T (wellFormed m) → InOrder (standingOf m)
-  ordered h = fit-ordered (m .variables) (standingOf m) (well-parts backToBack m h .fit)
+  prods-ordered : InOrder (standingOf m)
+  prods-ordered = fit-ordered (m .variables) (standingOf m) (well-parts backToBack m prods-well .fit)
 
-  -- where SUM and each of the PRODs is taken, both ways leave the same memory: head, term area and line table
-  pub sum-from-prods : AllTaken (bySum f g w) m → AllTaken (byProds f g w) m → memoryLeft (bySum f g w) m ≡ memoryLeft (byProds f g w) m
-  sum-from-prods b a =
-      all-taken (bySum f g w) m (well a) b .1
-      ∙ ap (imageOf (m .variables)) (sum-by-prods f g w (standingOf m) (ordered (well a)))
-      ∙ sym (all-taken (byProds f g w) m (well a) a .1)
+-- where SUM and each of the PRODs is taken, both ways leave the same memory: head, term area and line table
+pub sum-from-prods : (f g : List ℕ) (w : ℤ) (m : Memory) → AllTaken (bySum f g w) m → AllTaken (byProds f g w) m
+    → memoryLeft (bySum f g w) m ≡ memoryLeft (byProds f g w) m
+sum-from-prods f g w m b a =
+    let h = prods-well f g w m a in
+    all-taken (bySum f g w) m h b .1
+    ∙ ap (imageOf (m .variables)) (sum-by-prods f g w (standingOf m) (prods-ordered f g w m a)) ∙ sym (all-taken (byProds f g w) m h a .1)
 
-  -- where the PRODs are taken, so is SUM. Not the other way round: what a PROD leaves on the way may be beyond the limits, as one of the worked examples shows.
-  pub sum-taken : AllTaken (byProds f g w) m → AllTaken (bySum f g w) m
-  sum-taken a =
-      let accepts = sum-accepted f g w (standingOf m) (ordered (well a)) (m .variables) (all-taken (byProds f g w) m (well a) a .0) .0 in
-      (ap (λ (l : Left (Unit {0})). l .told) (step-well back-to-back Sum Signed f g w m (well a) ∙ ap onto accepts), tt)
-    where
-      onto : Outcome (List Line) → Left (Unit {0})
-      onto o = leftBy backToBack m (mapped (stepped (m .variables)) o)
+-- where the PRODs are taken, so is SUM. Not the other way round: what a PROD leaves on the way may be beyond the limits, as worked examples show.
+pub sum-taken : (f g : List ℕ) (w : ℤ) (m : Memory) → AllTaken (byProds f g w) m → AllTaken (bySum f g w) m
+sum-taken f g w m a =
+    let h = prods-well f g w m a in
+    let accepts = sum-accepted f g w (m .variables) (standingOf m) (prods-ordered f g w m a) (all-taken (byProds f g w) m h a .0) .0 in
+    (ap (λ (l : Left (Unit {0})). l .told) (step-well back-to-back Sum Signed f g w m h ∙ ap onto accepts), tt)
+  where
+    onto : Outcome (List Line) → Left (Unit {0})
+    onto o = leftBy backToBack m (mapped (stepped (m .variables)) o)

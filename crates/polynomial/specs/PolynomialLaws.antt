@@ -128,8 +128,8 @@ pub unique : (n : ℕ) (f g : List ℕ) → Ordered f → Ordered g → Below n 
 unique n = unique-within (λ t. t < 2 ^ n)
 
 -- two polynomials, of any variables, that agree everywhere are one
-pub everywhere : (f g : List ℕ) → Ordered f → Ordered g → ((α : ℕ) → eval f α ≡ eval g α) → f ≡ g
-everywhere f g s r h = unique-within (λ t. Unit {0}) f g s r (any f) (any g) (λ α k. h α)
+pub unique-everywhere : (f g : List ℕ) → Ordered f → Ordered g → ((α : ℕ) → eval f α ≡ eval g α) → f ≡ g
+unique-everywhere f g s r h = unique-within (λ t. Unit {0}) f g s r (any f) (any g) (λ α k. h α)
   where
     any : (l : List ℕ) → All (λ t. Unit {0}) l
     any [] = tt
@@ -137,7 +137,7 @@ everywhere f g s r h = unique-within (λ t. Unit {0}) f g s r (any f) (any g) (�
 
 -- f (g + 1) is f g + f
 pub product-plus-one : (f g : List ℕ) → productOf f (sumOf g ONE) ≡ sumOf (productOf f g) f
-product-plus-one f g = everywhere (productOf f g₁) (sumOf (productOf f g) f) (product-ordered f g₁) (sum-ordered (productOf f g) f)
+product-plus-one f g = unique-everywhere (productOf f g₁) (sumOf (productOf f g) f) (product-ordered f g₁) (sum-ordered (productOf f g) f)
     (λ α. eval-product f g₁ α ∙ rw (eval-sum g ONE α, eval-one α, eval-sum (productOf f g) f α, eval-product f g α) (at (eval f α) (eval g α)))
   where
     g₁ : List ℕ
@@ -150,7 +150,7 @@ product-plus-one f g = everywhere (productOf f g₁) (sumOf (productOf f g) f) (
 
 -- g f is f g
 pub product-turned : (f g : List ℕ) → productOf g f ≡ productOf f g
-product-turned f g = everywhere (productOf g f) (productOf f g) (product-ordered g f) (product-ordered f g)
+product-turned f g = unique-everywhere (productOf g f) (productOf f g) (product-ordered g f) (product-ordered f g)
     (λ α. eval-product g f α ∙ and-comm (eval g α) (eval f α) ∙ sym (eval-product f g α))
 
 -- ---- a polynomial by value has the terms that it was made of
