@@ -1,5 +1,5 @@
--- SUM in signed mode by PROD alone. Document 004, Lemma 4.5: "Using weights in Z, and the structural substitution rules, the SUM rule can simulate the PROD rule and vice versa." Its proof of the one,
--- where every line after the second is that of a PROD, folded:
+-- SUM in signed mode by PROD alone. Document 004, Lemma 4.5: "Using weights in Z, and the structural substitution rules, the SUM rule can simulate the PROD rule and vice versa." Its proof that PROD
+-- simulates SUM, each line below the second by one more PROD, folded:
 --     [f, w] [g, w]
 --     [f, w] [g, w] [f + g, w] [f + g, −w]                          unfolded
 --     [f, w] [g, w] [f + g, w] [f (f + g), −w] [g (f + 1), −w]      of f + g by f

@@ -72,7 +72,7 @@ same-weights f g w p =
     (⊟ (v 0) ⊞ (⊟ (v 1) ⊞ (v 2 ⊞ (v 3 ⊞ v 3 ⊞ o))))
     (⊟ (⊟ (v 2)) ⊞ (⊟ (v 4) ⊞ (⊟ (v 5) ⊞ (⊟ (v 0) ⊞ (v 3 ⊞ (v 4 ⊞ (⊟ (v 1) ⊞ (v 3 ⊞ (v 5 ⊞ o))))))))) tt)
 
--- ---- without limits: any polynomials, any whole number, any configuration
+-- ---- without limits: any polynomials, any whole number, any configuration, however long and whatever its weights
 pub sum-by-prods : (f g : List ℕ) (w : ℤ) (L : List Line) → InOrder L → applied (bySum f g w) L ≡ applied (byProds f g w) L
 sum-by-prods f g w L h =
     applied-changes (bySum f g w) L ∙ same-changes (changesOf (bySum f g w)) (changesOf (byProds f g w)) L h (λ p n. same-weights f g w p)

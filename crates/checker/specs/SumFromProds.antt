@@ -1,6 +1,6 @@
 -- Document 02, Ask 11, of the operation: "SUM adds nothing to signed PROD. A solver house writes only PROD; document 004 says nothing is lost in the signed mode. .. signed SUM of f and g with w leaves
 -- the same weights as PROD of f + g by f with −w, PROD of f by g with w, and PROD of g by f with w. .. for the operation, where each of the four steps is within its limits." Document 004, Lemma 4.5:
--- "the SUM rule can simulate the PROD rule and vice versa"; `calculus/specs/Simulation.antt` has its proof. Two theorems of direct steps on what is lent, whatever it holds: a memory that is not well
+-- "the SUM rule can simulate the PROD rule and vice versa"; its proof stands in `calculus/specs/Simulation.antt`. Two theorems of direct steps on what is lent, whatever it holds: a memory that is not well
 -- formed takes no step.
 use mathlib.Core.Path.{_≡_, sym, ap, subst, _∙_}
 use mathlib.Core.List.{List, [], _∷_}
