@@ -21,9 +21,12 @@ entryOf s p =
     (cond (eqb kind letterC) (line (clauseOf (numberAt 4 s (p .at + 1)) (numberAt 4 s (p .at + 5))) (signedAt s (p .at + 9)) ∷ [])
     [])))
 
--- the entries of a filing's accepted records
+-- the entries of the accepted records from a progress on, in some number of turns, and those of a filing
+abbrev pub entriesFrom : ℕ → List ℕ → Progress State → List Line
+entriesFrom k s p = gathered filing (λ s p q. entryOf s p) k s p
+
 abbrev pub entries : List ℕ → List Line
-entries s = gathered filing entryOf (length s) s (begun empty)
+entries s = entriesFrom (length s) s (begun empty)
 
 -- ---- two polynomials are one function of n variables
 unfoldable pub agreesBelow : ℕ → List ℕ → List ℕ → Bool

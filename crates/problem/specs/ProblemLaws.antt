@@ -10,7 +10,7 @@ use lib.Dec.{le→leb, T, leb, leb→le, ltb, ltb→lt, nltb→le, eqb}
 use lib.IntN.{ℤ, pos, negsuc, _+ℤ_, +ℤ-idl}
 use lib.ListN.{length, getD}
 use Rattle.refusal.specs.Outcome.{Outcome, accepted, refused, unless, mapped, Told}
-use Rattle.run.specs.BooleanLaws.{bool-ext, is-true, of-true, both, cond-ind}
+use Rattle.run.specs.BooleanLaws.{bool-ext, is-true, of-true, not-both, both, cond-ind}
 use Rattle.polynomial.specs.Polynomial.{ZERO, eval, orderOf, sumOf, clauseOf}
 use Rattle.polynomial.specs.ClauseLaws.{clause-ordered, clause-below}
 use Rattle.configuration.specs.Weight.{isZero, isNegative, share}
@@ -22,11 +22,11 @@ use Rattle.configuration.specs.Made.{Made}
 use Rattle.configuration.specs.Limits.{within}
 use Rattle.record.specs.Letters.{letterV, letterM, letterW, letterC}
 use Rattle.record.specs.Record.{whole, numberAt, signedAt}
-use Rattle.walk.specs.Walk.{Progress, begun, past, walk, readAll, gathered}
+use Rattle.walk.specs.Walk.{Progress, begun, past, walk, readAll}
 use Rattle.walk.specs.WalkLaws.{unless-ind, IfAccepted, walk-ind, walk-keeps}
 use Rattle.walk.specs.WorkLaws.{term-ind, term-sum}
 use Rattle.problem.specs.Problem.{State, empty, having, weightFits, folded, onVariables, onTerm, onWeight, onClause, onRecord, filing, filed, fileProblem}
-use Rattle.problem.specs.Entries.{entryOf, entries, agreesBelow, agrees, Permuted, itself, skip, swap, trans}
+use Rattle.problem.specs.Entries.{entryOf, entriesFrom, entries, agreesBelow, agrees, Permuted, itself, skip, swap, trans}
 use Rattle.run.specs.BooleanLaws as B
 use Rattle.polynomial.specs.PolynomialLaws as P
 
@@ -104,10 +104,6 @@ module _ (s : List ℕ) (p : Progress State) (R : List Line → Outcome (Progres
 abbrev pub NoneYet : State → Type 0
 NoneYet x = T (not (x .started)) → x .lines ≡ []
 
-no-more : (b : Bool) → T b → T (not b) → ⊥
-no-more true h k = k
-no-more false h k = h
-
 -- an accepted record adds its entry, and V has come
 pub record-lines : (s : List ℕ) (p q : Progress State) → NoneYet (p .state) → onRecord s p ≡ accepted q
     → (q .state .lines ≡ addAll (entryOf s p) (p .state .lines)) × T (q .state .started)
@@ -117,12 +113,12 @@ record-lines s p q f e =
     (λ C n. tt) (λ h i j. (sym (f h), tt)) (λ t h i j k. (refl, tt)) (λ w h i j k l. (refl, tt)) (λ a b w h i j k l m n o. (refl, tt)))
 
 pub filing-lines : (k : ℕ) (s : List ℕ) (p : Progress State) → NoneYet (p .state)
-    → (walk filing k s p) .reached .state .lines ≡ addAll (gathered filing entryOf k s p) (p .state .lines)
+    → (walk filing k s p) .reached .state .lines ≡ addAll (entriesFrom k s p) (p .state .lines)
 unfolding addAll
-filing-lines k s = walk-ind filing entryOf (λ p F C. NoneYet (p .state) → F .reached .state .lines ≡ addAll C (p .state .lines)) s (λ p f. refl) (λ p n e f. refl)
+filing-lines k s = walk-ind filing (λ s p q. entryOf s p) (λ p F C. NoneYet (p .state) → F .reached .state .lines ≡ addAll C (p .state .lines)) s (λ p f. refl) (λ p n e f. refl)
     (λ p q F C e rest f.
     let d : (q .state .lines ≡ addAll (entryOf s p) (p .state .lines)) × T (q .state .started) = record-lines s p q f e in
-    rest (λ h. absurd (no-more (q .state .started) (d .1) h)) ∙ ap (addAll C) (d .0) ∙ sym (changes-append (entryOf s p) C (p .state .lines))) k
+    rest (λ h. absurd (not-both (q .state .started) (d .1) h)) ∙ ap (addAll C) (d .0) ∙ sym (changes-append (entryOf s p) C (p .state .lines))) k
 
 -- ---- signs: a positive amount makes no line negative
 filing-sign : (w : ℤ) → T (weightFits w) → isNegative w ≡ false
@@ -325,13 +321,13 @@ entry-fit s p q o e = rw e at (record-ind s p (λ C r. IfAccepted (λ q. Fitting
 record-variables : (s : List ℕ) (p q : Progress State) → T (p .state .started) → onRecord s p ≡ accepted q
     → (q .state .variables ≡ p .state .variables) × T (q .state .started)
 record-variables s p q b e = rw e at (record-ind s p (λ C r. IfAccepted (λ q. (q .state .variables ≡ p .state .variables) × T (q .state .started)) r)
-    (λ C n. tt) (λ h i j. absurd (no-more (p .state .started) b h)) (λ t h i j k. (refl, tt)) (λ w h i j k l. (refl, tt)) (λ a b w h i j k l m n o. (refl, tt)))
+    (λ C n. tt) (λ h i j. absurd (not-both (p .state .started) b h)) (λ t h i j k. (refl, tt)) (λ w h i j k l. (refl, tt)) (λ a b w h i j k l m n o. (refl, tt)))
 
 -- the variables stay from V on
 fitting-walk : (s : List ℕ) (k : ℕ) (p : Progress State)
     → (T (p .state .started) → (walk filing k s p) .reached .state .variables ≡ p .state .variables)
-    × (Sound (p .state) → Fitting ((walk filing k s p) .reached .state .variables) (gathered filing entryOf k s p))
-fitting-walk s = walk-ind filing entryOf
+    × (Sound (p .state) → Fitting ((walk filing k s p) .reached .state .variables) (entriesFrom k s p))
+fitting-walk s = walk-ind filing (λ s p q. entryOf s p)
     (λ p F C. (T (p .state .started) → F .reached .state .variables ≡ p .state .variables) × (Sound (p .state) → Fitting (F .reached .state .variables) C)) s
     (λ p. (λ h. refl, λ o. tt)) (λ p n e. (λ h. refl, λ o. tt)) (λ p q F C e rest. (
       λ h. rest .0 (record-variables s p q h e .1) ∙ record-variables s p q h e .0,
@@ -341,7 +337,7 @@ fitting-walk s = walk-ind filing entryOf
     ))
 
 pub entries-fit : (k : ℕ) (s : List ℕ) (p : Progress State) → Sound (p .state)
-    → Fitting ((walk filing k s p) .reached .state .variables) (gathered filing entryOf k s p)
+    → Fitting ((walk filing k s p) .reached .state .variables) (entriesFrom k s p)
 entries-fit k s p o = fitting-walk s k p .1 o
 
 pub filed-fitting : (s : List ℕ) → Fitting (fileProblem s .variables) (entries s)

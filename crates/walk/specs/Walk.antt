@@ -58,11 +58,11 @@ abbrev pub verdict : {A : Type 0} → ℕ → A → Stop → Told A
 verdict k x nothing = answered x
 verdict k x (refusedFor n) = refusedAt (suc k) n
 
--- ---- what the accepted records give, in their order
-abbrev pub onward : {S A : Type 0} → (Progress S → List A) → List A → Outcome (Progress S) → List A
-onward rest C (accepted q) = C ++ rest q
-onward rest C (refused n) = []
+-- ---- what the accepted records give, in their order: give s p q is what the record gives that leads from p to q
+abbrev pub onward : {S A : Type 0} → (Progress S → List A) → Outcome (Progress S) → List A
+onward rest (accepted q) = rest q
+onward rest (refused n) = []
 
-unfoldable pub gathered : {S A : Type 0} → Reader S → (List ℕ → Progress S → List A) → ℕ → List ℕ → Progress S → List A
+unfoldable pub gathered : {S A : Type 0} → Reader S → (List ℕ → Progress S → Progress S → List A) → ℕ → List ℕ → Progress S → List A
 gathered R give zero s p = []
-gathered R give (suc k) s p = cond (leb (length s) (p .at)) [] (onward (λ q. gathered R give k s q) (give s p) (R .onRecord s p))
+gathered R give (suc k) s p = cond (leb (length s) (p .at)) [] (onward (λ q. give s p q ++ gathered R give k s q) (R .onRecord s p))

@@ -31,17 +31,17 @@ IfAccepted Q (refused n) = Unit {0}
 
 module _ {S : Type 0} (R : Reader S) where
   -- ---- all records: what holds where a walk ends or is refused, and is carried back by each accepted record, holds of it and what it gathers
-  pub walk-ind : {A : Type 0} (give : List ℕ → Progress S → List A) (Q : Progress S → Reached (Progress S) → List A → Type 0) (s : List ℕ)
+  pub walk-ind : {A : Type 0} (give : List ℕ → Progress S → Progress S → List A) (Q : Progress S → Reached (Progress S) → List A → Type 0) (s : List ℕ)
       → ((p : Progress S) → Q p (over R p) [])
       → ((p : Progress S) (n : ℕ) → R .onRecord s p ≡ refused n → Q p (record { reached = p; stop = refusedFor n }) [])
-      → ((p q : Progress S) (F : Reached (Progress S)) (C : List A) → R .onRecord s p ≡ accepted q → Q q F C → Q p F (give s p ++ C))
+      → ((p q : Progress S) (F : Reached (Progress S)) (C : List A) → R .onRecord s p ≡ accepted q → Q q F C → Q p F (give s p q ++ C))
       → (k : ℕ) (p : Progress S) → Q p (walk R k s p) (gathered R give k s p)
   unfolding walk gathered
   walk-ind give Q s atEnd atRefusal back zero p = atEnd p
   walk-ind give Q s atEnd atRefusal back (suc k) p = go (leb (length s) (p .at)) (R .onRecord s p) refl (λ q. walk-ind give Q s atEnd atRefusal back k q)
     where
       go : (b : Bool) (r : Outcome (Progress S)) → R .onRecord s p ≡ r → ((q : Progress S) → Q q (walk R k s q) (gathered R give k s q))
-          → Q p (cond b (over R p) (next p (λ q. walk R k s q) r)) (cond b [] (onward (λ q. gathered R give k s q) (give s p) r))
+          → Q p (cond b (over R p) (next p (λ q. walk R k s q) r)) (cond b [] (onward (λ q. give s p q ++ gathered R give k s q) r))
       go true r e rest = atEnd p
       go false (accepted q) e rest = back p q (walk R k s q) (gathered R give k s q) e (rest q)
       go false (refused n) e rest = atRefusal p n e
@@ -49,11 +49,11 @@ module _ {S : Type 0} (R : Reader S) where
   -- what every accepted record keeps holds where a walk ends or is refused
   pub walk-keeps : (Q : Progress S → Type 0) (s : List ℕ) → ((p q : Progress S) → R .onRecord s p ≡ accepted q → Q p → Q q)
       → (k : ℕ) (p : Progress S) → Q p → Q ((walk R k s p) .reached)
-  walk-keeps Q s keeps = walk-ind {A = ℕ} (λ s p. []) (λ p F C. Q p → Q (F .reached)) s (λ p h. h) (λ p n e h. h) (λ p q F C e rest h. rest (keeps p q e h))
+  walk-keeps Q s keeps = walk-ind {A = ℕ} (λ s p q. []) (λ p F C. Q p → Q (F .reached)) s (λ p h. h) (λ p n e h. h) (λ p q F C e rest h. rest (keeps p q e h))
 
   -- a walk that nothing stops reaches a state that is complete
   pub walk-complete : (k : ℕ) (s : List ℕ) (p : Progress S) → (walk R k s p) .stop ≡ nothing → T (R .complete ((walk R k s p) .reached .state))
-  walk-complete k s = walk-ind {A = ℕ} (λ s p. []) (λ p F C. F .stop ≡ nothing → T (R .complete (F .reached .state))) s
+  walk-complete k s = walk-ind {A = ℕ} (λ s p q. []) (λ p F C. F .stop ≡ nothing → T (R .complete (F .reached .state))) s
       (λ p e. go (R .complete (p .state)) e) (λ p n d e. absurd (stopped e)) (λ p q F C e rest. rest) k
     where
       stopped : {n : ℕ} → refusedFor n ≡ nothing → ⊥
@@ -80,6 +80,19 @@ module _ {S : Type 0} (R : Reader S) where
       → walk R (suc j) s p ≡ record { reached = p; stop = refusedFor n }
   unfolding walk
   refuses j s p n h e = rw (more s p h, e)
+
+  module _ {A : Type 0} (give : List ℕ → Progress S → Progress S → List A) (j : ℕ) (s : List ℕ) (p : Progress S) where
+    pub gathers-none : length s ≤ p .at → gathered R give j s p ≡ []
+    unfolding gathered
+    gathers-none h = go j
+      where
+        go : (j : ℕ) → gathered R give j s p ≡ []
+        go zero = refl
+        go (suc j) = rw (is-true (leb (length s) (p .at)) (le→leb (length s) (p .at) h))
+
+    pub gathers : (q : Progress S) → p .at < length s → R .onRecord s p ≡ accepted q → gathered R give (suc j) s p ≡ give s p q ++ gathered R give j s q
+    unfolding gathered
+    gathers q h e = rw (more s p h, e)
 
   -- a record that is refused is passed in no number of turns
   stays : (j : ℕ) (s : List ℕ) (p : Progress S) (n : ℕ) → p .at < length s → R .onRecord s p ≡ refused n → (walk R j s p) .reached ≡ p
@@ -174,7 +187,7 @@ module _ {S : Type 0} (R : Reader S) (L : Local R) where
           steps R i (take K s) p q (omega (arith, length-take-le K s l)) (L .prefix s p q K l (omega arith) e) ∙ rest .1 i K l a (omega arith)
 
   comes : (s : List ℕ) (k : ℕ) (p : Progress S) → Comes s p (walk R k s p)
-  comes s = walk-ind R {A = ℕ} (λ s p. []) (λ p F C. Comes s p F) s (λ p. comes-here s p (over R p) refl)
+  comes s = walk-ind R {A = ℕ} (λ s p q. []) (λ p F C. Comes s p F) s (λ p. comes-here s p (over R p) refl)
       (λ p n e. comes-here s p (record { reached = p; stop = refusedFor n }) refl) (λ p q F C e rest. comes-back s p q F e rest)
 
   -- wherever a walk comes in some number of turns, the bytes up to there are read to their end, and no record among them is refused
