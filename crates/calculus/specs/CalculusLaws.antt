@@ -26,7 +26,7 @@ use Rattle.polynomial.specs.PolynomialLaws.{written, eval-sum, eval-product, ev
 use Rattle.configuration.specs.Weight.{isNegative, share}
 use Rattle.configuration.specs.Configuration.{Line, line, some, same, total, cost, weight, addAll, negated, InOrder, Every, below, isPolynomial, linesFit, weightsFit, isConfiguration, anyNegative}
 use Rattle.configuration.specs.SumLaws.{share-neg, solve, o, v, _⊞_, ⊟}
-use Rattle.configuration.specs.ConfigurationLaws.{same-is, same-none, total-negated, total-append, same-changes, cost-all, weight-all, all-ordered, weight-behind, weight-head, all-fit}
+use Rattle.configuration.specs.ConfigurationLaws.{same-is, same-none, total-negated, total-append, same-changes, cost-all, weight-all, all-every, all-ordered, weight-behind, weight-head, all-fit}
 use Rattle.configuration.specs.Limits.{within}
 use Rattle.configuration.specs.LineLaws.{polynomial-below, polynomial-is, sum-sign, every-append, within-accepted, configuration-parts, parts-configuration}
 use Rattle.calculus.specs.Calculus.{premises, conclusions, changes, isPlain, amountFits, covers, there, allShort, modeTests, changed, step, operandTests, directStep}
@@ -228,14 +228,23 @@ unfolding negated
 every-negated P [] a = tt
 every-negated P (line f w ∷ L) a = (a .0, every-negated P L (a .1))
 
-module _ (r : Rule) (f g : List ℕ) (w : ℤ) (n : ℕ) (hf : T (isPolynomial n f)) (hg : T (isPolynomial n g)) where
-  premises-fit : Every (λ p. T (isPolynomial n p)) (premises r f g w)
-  premises-fit = go r
-    where
-      go : (r : Rule) → Every (λ p. T (isPolynomial n p)) (premises r f g w)
-      go Sum = (hf, (hg, tt))
-      go Prod = (hf, tt)
+-- what holds of f, of g and of each conclusion holds of each change
+changes-every : (P : List ℕ → Type 0) (r : Rule) (f g : List ℕ) (w : ℤ) → P f → P g → Every P (conclusions r f g w) → Every P (changes r f g w)
+changes-every P r f g w hf hg h = every-append P (negated (premises r f g w)) (conclusions r f g w) (every-negated P (premises r f g w) (go r)) h
+  where
+    go : (r : Rule) → Every P (premises r f g w)
+    go Sum = (hf, (hg, tt))
+    go Prod = (hf, tt)
 
+-- the terms of the lines stay in order
+pub step-ordered : (r : Rule) (d : Mode) (f g : List ℕ) (w : ℤ) (L M : List Line) → Ordered f → Ordered g → Every Ordered L → step r d f g w L ≡ accepted M → Every Ordered M
+step-ordered r d f g w L M hf hg h e = rw (step-taken r d f g w L M e) (all-every Ordered (changes r f g w) L (changes-every Ordered r f g w hf hg (go r)) h)
+  where
+    go : (r : Rule) → Every Ordered (conclusions r f g w)
+    go Sum = (sum-ordered f g, (product-ordered f g, tt))
+    go Prod = (product-ordered f g, (product-ordered f (sumOf g ONE), tt))
+
+module _ (r : Rule) (f g : List ℕ) (w : ℤ) (n : ℕ) (hf : T (isPolynomial n f)) (hg : T (isPolynomial n g)) where
   conclusions-fit : T (allShort (conclusions r f g w)) → Every (λ p. T (isPolynomial n p)) (conclusions r f g w)
   conclusions-fit h = short-fit n (conclusions r f g w) h (go r)
     where
@@ -256,9 +265,7 @@ module _ (r : Rule) (f g : List ℕ) (w : ℤ) (n : ℕ) (hf : T (isPolynomial n
       go Prod = ((product-below n f g a b, product-ordered f g), ((product-below n f g₁ a (sum-below n g ONE b one), product-ordered f g₁), tt))
 
   changes-fit : T (allShort (conclusions r f g w)) → Every (λ p. T (isPolynomial n p)) (changes r f g w)
-  changes-fit h =
-      every-append (λ p. T (isPolynomial n p)) (negated (premises r f g w)) (conclusions r f g w)
-      (every-negated (λ p. T (isPolynomial n p)) (premises r f g w) premises-fit) (conclusions-fit h)
+  changes-fit h = changes-every (λ p. T (isPolynomial n p)) r f g w hf hg (conclusions-fit h)
 
 pub step-fits : (r : Rule) (d : Mode) (f g : List ℕ) (w : ℤ) (n : ℕ) (L M : List Line) → T (isPolynomial n f) → T (isPolynomial n g) → T (linesFit n L)
     → step r d f g w L ≡ accepted M → T (linesFit n M) × (length M ≤ 128) × T (weightsFit M)
