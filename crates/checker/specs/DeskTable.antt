@@ -18,8 +18,8 @@ use Rattle.calculus.specs.declared.Rule.the-variants.{Sum, Prod}
 use Rattle.calculus.specs.declared.Mode.the-variants.{Plain, Signed}
 use Rattle.record.specs.Letters.{letterN, letterZ, letterB}
 use Rattle.record.specs.Record.{littleEndian}
-use Rattle.walk.specs.Walk.{walk}
-use Rattle.derivation.specs.Derivation.{onRecord, degreeMax, degreeIn, Confirmation, confirmed, checkDerivation}
+use Rattle.walk.specs.Walk.{walk, gathered}
+use Rattle.derivation.specs.Derivation.{onRecord, largest, degreeIn, derivationDegree, Confirmation, confirmed, checkDerivation}
 use Rattle.checker.specs.Checker.{Left, leftOf, done, stepUnder, checkUnder, stepIn, checkIn}
 
 -- ---- polynomials of the table
@@ -96,7 +96,7 @@ pub record DeskTable : Type 0 where
 
 -- ---- every row holds: all of it is computed
 pub desk-table : DeskTable
-unfolding factors normalBy toggleBy unions before ones below sorted orderOf linesFit lineFits weightsFit anyNegative total add fold addAll negated within covers allShort step directStep littleEndian walk onRecord degreeIn degreeMax checkDerivation readLines allTerms entriesOf alike stepUnder checkUnder
+unfolding factors normalBy toggleBy unions before ones below sorted orderOf linesFit lineFits weightsFit anyNegative total add fold addAll negated within covers allShort step directStep littleEndian walk gathered onRecord largest degreeIn derivationDegree checkDerivation readLines allTerms entriesOf alike stepUnder checkUnder
 desk-table = record {
   row1 = refl;
   row2 = refl;

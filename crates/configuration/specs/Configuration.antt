@@ -18,6 +18,9 @@ use Rattle.configuration.specs.Weight.{inRange, isZero, isNegative, shar
 pub data Line : Type 0 where
   line : List ℕ → ℤ → Line
 
+abbrev pub polynomialOf : Line → List ℕ
+polynomialOf (line f w) = f
+
 -- a polynomial is not 0
 abbrev pub some : List ℕ → Bool
 some [] = false

@@ -1,8 +1,8 @@
 -- What each answer of the code for one record says: the progress that is left as the definitions have it, and what holds before the next record.
-use mathlib.Core.Path.{_≡_, refl, sym, ap, _∙_}
+use mathlib.Core.Path.{_≡_, refl, sym, ap, subst, _∙_}
 use mathlib.Core.Bool.{Bool, true, false, not, _&&_}
 use mathlib.Core.List.{List}
-use Prim.Native.Nat.{ℕ, _+_, _≤_}
+use Prim.Native.Nat.{ℕ, _+_, _≤_, max}
 use native.Mathlib.Numerals.{add-one}
 use native.Mathlib.Omega.{arith}
 use lib.IntN.{ℤ}
@@ -18,8 +18,8 @@ use Rattle.table.specs.Rows.{withLines, Table, linesOf, Fits}
 use Rattle.record.specs.Record.{amountIn}
 use Rattle.record.proofs.Bodies.{amount-cut, amount-whole}
 use Rattle.walk.specs.Work.{termAdded}
-use Rattle.derivation.specs.Derivation.{State, going, claimFits, onTerm, onChoice, onClaim}
-use Rattle.derivation.specs.Held.{progressIn, leftIn, Held, passed, closing}
+use Rattle.derivation.specs.Derivation.{State, going, claimFits, onTerm, onChoice, onClaim, degreeIn}
+use Rattle.derivation.specs.Held.{progressIn, leftIn, Held, passed, closing, Leaves}
 use Rattle.derivation.specs.declared.Progress.{Progress}
 use Rattle.derivation.specs.declared.Recorded.{Recorded}
 use Rattle.record.specs.declared.Amount.the-variants as A
@@ -30,25 +30,38 @@ module _ (p : Progress) (fs us : List ℕ) (t : Table) (held : Held p fs us t) (
     (x : Outcome (W.Progress State)) (k : x ≡ refused (numberOf reason)) where
   -- the areas may have changed, but neither the terms of the work polynomial nor the lines
   pub refused-as : (vs : List ℕ) (u : Table) → length vs ≡ 64 → take (p .work) vs ≡ take (p .work) us → Fits 128 (withLines (p .lines) u)
-      → linesOf (withLines (p .lines) u) ≡ linesOf (withLines (p .lines) t)
-      → (leftIn r fs vs u ≡ after (progressIn p fs us t) x) × Held (r .progress) fs vs u
-  refused-as vs u l g fits same = (
-    ap (λ (y : Recorded). leftIn y fs vs u) e ∙ rw (k, g, same),
-    rw e (record { fits = fits; first-area = held .first-area; first-room = held .first-room; area = l; room = held .room; counted = held .counted }),
-  )
+      → linesOf (withLines (p .lines) u) ≡ linesOf (withLines (p .lines) t) → Leaves x p fs us t r fs vs u
+  refused-as vs u l g fits same =
+      let d : degreeIn (linesOf (withLines (p .lines) u)) ≤ p .degree = omega (arith, ap degreeIn same, held .met) in (
+        ap (λ (y : Recorded). leftIn y fs vs u) e ∙ rw (k, g, same),
+        rw e (record { fits = fits; first-area = held .first-area; first-room = held .first-room; area = l; room = held .room; counted = held .counted; met = d }),
+        rw e (omega arith),
+      )
 
-  pub refused-in : (vs : List ℕ) → length vs ≡ 64 → take (p .work) vs ≡ take (p .work) us
-      → (leftIn r fs vs t ≡ after (progressIn p fs us t) x) × Held (r .progress) fs vs t
+  pub refused-in : (vs : List ℕ) → length vs ≡ 64 → take (p .work) vs ≡ take (p .work) us → Leaves x p fs us t r fs vs t
   refused-in vs l g = refused-as vs t l g (held .fits) refl
 
-  pub turned-down : (leftIn r fs us t ≡ after (progressIn p fs us t) x) × Held (r .progress) fs us t
-  turned-down = (ap (λ (y : Recorded). leftIn y fs us t) e ∙ ap (after (progressIn p fs us t)) (sym k), rw e held)
+  pub turned-down : Leaves x p fs us t r fs us t
+  turned-down = refused-in us (held .area) refl
 
 -- an accepted record leaves a progress and areas
-pub passes : (q : Progress) (fs us : List ℕ) (t : Table) (r : Recorded) → r ≡ record { progress = q; objection = Nothing } → Held q fs us t
-    → (begun : W.Progress State) (x : Outcome (W.Progress State)) → x ≡ accepted (progressIn q fs us t)
-    → (leftIn r fs us t ≡ after begun x) × Held (r .progress) fs us t
-passes q fs us t r e held begun x k = (ap (λ (y : Recorded). leftIn y fs us t) e ∙ ap (after begun) (sym k), rw e held)
+pub passes : (p : Progress) (fs us : List ℕ) (t : Table) (q : Progress) (gs vs : List ℕ) (u : Table) (r : Recorded) → r ≡ record { progress = q; objection = Nothing }
+    → Held q gs vs u → q .degree ≡ max (p .degree) (degreeIn (linesOf (withLines (q .lines) u))) → (x : Outcome (W.Progress State)) → x ≡ accepted (progressIn q gs vs u)
+    → Leaves x p fs us t r gs vs u
+passes p fs us t q gs vs u r e held d x k = (ap (λ (y : Recorded). leftIn y gs vs u) e ∙ ap (after (progressIn p fs us t)) (sym k), rw e held, rw e d)
+
+-- what is held stays so where f, the work polynomial, the lines and the degree are as they were
+pub held-on : (p q : Progress) (fs us : List ℕ) (t : Table) → q .first ≡ p .first → q .work ≡ p .work → q .lines ≡ p .lines → q .degree ≡ p .degree → q .records ≤ q .at
+    → Held p fs us t → Held q fs us t
+held-on p q fs us t a b c d e held = record {
+  fits = subst (λ (k : ℕ). Fits 128 (withLines k t)) (sym c) (held .fits);
+  first-area = held .first-area;
+  first-room = omega (arith, a, held .first-room);
+  area = held .area;
+  room = omega (arith, b, held .room);
+  counted = e;
+  met = omega (arith, d, ap (λ (k : ℕ). degreeIn (linesOf (withLines k t))) c, held .met);
+}
 
 -- ---- M
 module _ (n : ℕ) (s : List ℕ) (p : Progress) (fs us : List ℕ) (t : Table) where
@@ -63,16 +76,17 @@ module _ (n : ℕ) (s : List ℕ) (p : Progress) (fs us : List ℕ) (t : Table) 
     term-down m k = rw (e, k)
 
     pub term-up : (j : ℕ) (vs : List ℕ) → termAdded n s (p .at + 1) (take (p .work) us) ≡ accepted (take j vs) → j ≤ 64 → length vs ≡ 64 → Held p fs us t
-        → (r : Recorded) → r ≡ record { progress = passed p 5 (p .chosen) (p .first) j (p .lines); objection = Nothing }
-        → (leftIn r fs vs t ≡ after begun (onTerm n s begun)) × Held (r .progress) fs vs t
-    term-up j vs k h l held r d = passes (passed p 5 (p .chosen) (p .first) j (p .lines)) fs vs t r d (record {
+        → (r : Recorded) → r ≡ record { progress = passed p 5 (p .chosen) (p .first) j (p .lines) (p .degree); objection = Nothing }
+        → Leaves (onTerm n s begun) p fs us t r fs vs t
+    term-up j vs k h l held r d = passes p fs us t (passed p 5 (p .chosen) (p .first) j (p .lines) (p .degree)) fs vs t r d (record {
       fits = held .fits;
       first-area = held .first-area;
       first-room = held .first-room;
       area = l;
       room = h;
       counted = omega (arith, held .counted);
-    }) begun (onTerm n s begun) (rw (e, k, add-one (p .records)))
+      met = held .met;
+    }) (omega (arith, held .met)) (onTerm n s begun) (rw (e, k, add-one (p .records)))
 
 -- ---- K
 module _ (p : Progress) (fs us : List ℕ) (t : Table) where
@@ -87,16 +101,17 @@ module _ (p : Progress) (fs us : List ℕ) (t : Table) where
     choice-again k = rw (e, k)
 
     pub choice-up : p .chosen ≡ false → (gs : List ℕ) → take (p .work) gs ≡ take (p .work) us → length gs ≡ 64 → Held p fs us t
-        → (r : Recorded) → r ≡ record { progress = passed p 1 true (p .work) 0 (p .lines); objection = Nothing }
-        → (leftIn r gs us t ≡ after here (onChoice here)) × Held (r .progress) gs us t
-    choice-up k gs g l held r d = passes (passed p 1 true (p .work) 0 (p .lines)) gs us t r d (record {
+        → (r : Recorded) → r ≡ record { progress = passed p 1 true (p .work) 0 (p .lines) (p .degree); objection = Nothing }
+        → Leaves (onChoice here) p fs us t r gs us t
+    choice-up k gs g l held r d = passes p fs us t (passed p 1 true (p .work) 0 (p .lines) (p .degree)) gs us t r d (record {
       fits = held .fits;
       first-area = l;
       first-room = held .room;
       area = held .area;
       room = omega arith;
       counted = omega (arith, held .counted);
-    }) here (onChoice here) (rw (e, k, add-one (p .records), g))
+      met = held .met;
+    }) (omega (arith, held .met)) (onChoice here) (rw (e, k, add-one (p .records), g))
 
 -- ---- B
 module _ (s : List ℕ) (p : Progress) (fs us : List ℕ) (t : Table) where
@@ -127,12 +142,6 @@ module _ (s : List ℕ) (p : Progress) (fs us : List ℕ) (t : Table) where
 
           pub claim-closed : leZ w (weight (now .state .lines) ONE) ≡ true → Held p fs us t
               → (r : Recorded) → r ≡ record { progress = closing p w; objection = Nothing }
-              → (leftIn r fs us t ≡ after now (onClaim s now)) × Held (r .progress) fs us t
-          claim-closed k held r d = passes (closing p w) fs us t r d (record {
-            fits = held .fits;
-            first-area = held .first-area;
-            first-room = held .first-room;
-            area = held .area;
-            room = held .room;
-            counted = omega (arith, held .counted);
-          }) now (onClaim s now) (rw (e, amount-whole s (p .at + 1) w a .0, amount-whole s (p .at + 1) w a .1, f, m, k, add-one (p .records)))
+              → Leaves (onClaim s now) p fs us t r fs us t
+          claim-closed k held r d = passes p fs us t (closing p w) fs us t r d (held-on p (closing p w) fs us t refl refl refl refl (omega (arith, held .counted)) held)
+              (omega (arith, held .met)) (onClaim s now) (rw (e, amount-whole s (p .at + 1) w a .0, amount-whole s (p .at + 1) w a .1, f, m, k, add-one (p .records)))

@@ -2,7 +2,7 @@
 use mathlib.Core.Path.{_≡_, refl, sym, ap, subst, _∙_}
 use mathlib.Core.Bool.{true, false}
 use mathlib.Core.List.{List}
-use Prim.Native.Nat.{ℕ, _+_}
+use Prim.Native.Nat.{ℕ, _+_, max}
 use native.Mathlib.Numerals.{add-one}
 use native.Mathlib.Omega.{arith}
 use lib.IntN.{ℤ}
@@ -13,14 +13,17 @@ use Rattle.refusal.specs.declared.Objection.{Objection}
 use Rattle.refusal.specs.declared.Objection.the-variants.{Nothing, Found}
 use Rattle.refusal.specs.Refusal.{numberOf}
 use Rattle.refusal.specs.declared.Reason.{Reason}
-use Rattle.configuration.specs.Configuration.{Line}
+use Rattle.polynomial.specs.Polynomial.{Ordered}
+use Rattle.configuration.specs.Configuration.{Line, Every}
 use Rattle.table.specs.Rows.{withLines, Table, linesOf, Fits}
 use Rattle.table.specs.RowsLaws.{length-lines}
+use Rattle.calculus.specs.CalculusLaws.{step-ordered}
 use Rattle.calculus.specs.declared.Rule.{Rule}
+use Rattle.step.specs.Stepping.{Operand}
 use Rattle.record.specs.Record.{amountIn}
 use Rattle.record.proofs.Bodies.{amount-cut, amount-whole}
-use Rattle.derivation.specs.Derivation.{State, going, onStep}
-use Rattle.derivation.specs.Held.{progressIn, leftIn, Held, passed}
+use Rattle.derivation.specs.Derivation.{State, going, onStep, degreeIn}
+use Rattle.derivation.specs.Held.{progressIn, Held, passed, Leaves}
 use Rattle.derivation.specs.declared.Progress.{Progress}
 use Rattle.derivation.specs.declared.Recorded.{Recorded}
 use Rattle.derivation.proofs.Entries.{refused-as, passes}
@@ -63,7 +66,7 @@ module _ (s : List ℕ) (p : Progress) (fs us : List ℕ) (t : Table) (r : Rule)
           step-down = rw (e, k, amount-whole s (p .at + 1) w a .0, amount-whole s (p .at + 1) w a .1, unmoved .0)
 
           pub step-refused : (q : Recorded) → q ≡ record { progress = p; objection = Found reason }
-              → (leftIn q fs us u ≡ after begun (onStep r s begun)) × Held (q .progress) fs us u
+              → Leaves (onStep r s begun) p fs us t q fs us u
           step-refused q g = refused-as p fs us t held reason q g (onStep r s begun) step-down us u (held .area) refl
               (subst (λ (i : ℕ). Fits 128 (withLines i u)) as-many fits) (subst (λ (i : ℕ). linesOf (withLines i u) ≡ old) as-many (unmoved .1))
 
@@ -72,16 +75,26 @@ module _ (s : List ℕ) (p : Progress) (fs us : List ℕ) (t : Table) (r : Rule)
           took : stepping w ≡ accepted (linesOf (withLines j u))
           took = after-accepted old (linesOf (withLines j u)) (stepping w) (rw f at d)
 
-          step-up : onStep r s begun ≡ accepted (progressIn (passed p 9 false 0 0 j) fs us u)
+          -- the largest degree so far counts them
+          abbrev largest-now : ℕ
+          largest-now = max (p .degree) (degreeIn (linesOf (withLines j u)))
+
+          abbrev next : Progress
+          next = passed p 9 false 0 0 j largest-now
+
+          pub stays-ordered : Operand (take (p .first) fs) → Operand (take (p .work) us) → Every Ordered old → Every Ordered (linesOf (withLines j u))
+          stays-ordered a b h = step-ordered r (p .mode) (take (p .first) fs) (take (p .work) us) w old (linesOf (withLines j u)) (a .1) (b .1) h took
+
+          step-up : onStep r s begun ≡ accepted (progressIn next fs us u)
           step-up = rw (e, k, amount-whole s (p .at + 1) w a .0, amount-whole s (p .at + 1) w a .1, took, add-one (p .records))
 
-          pub step-accepted : (q : Recorded) → q ≡ record { progress = passed p 9 false 0 0 j; objection = Nothing }
-              → (leftIn q fs us u ≡ after begun (onStep r s begun)) × Held (q .progress) fs us u
-          step-accepted q g = passes (passed p 9 false 0 0 j) fs us u q g (record {
+          pub step-accepted : (q : Recorded) → q ≡ record { progress = next; objection = Nothing } → Leaves (onStep r s begun) p fs us t q fs us u
+          step-accepted q g = passes p fs us t next fs us u q g (record {
             fits = fits;
             first-area = held .first-area;
             first-room = omega arith;
             area = held .area;
             room = omega arith;
             counted = omega (arith, held .counted);
-          }) begun (onStep r s begun) step-up
+            met = omega arith;
+          }) refl (onStep r s begun) step-up

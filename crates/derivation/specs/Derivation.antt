@@ -5,12 +5,12 @@ use Prim.Native.Nat.{ℕ, _+_, max}
 use lib.Dec.{eqb}
 use lib.IntN.{ℤ, pos}
 use lib.Signed.{leZ}
-use lib.ListN.{getD}
+use lib.ListN.{length, getD}
 use Rattle.refusal.specs.Outcome.{Outcome, accepted, refused, unless, mapped, Told, answered, refusedAt}
 use Rattle.term.specs.Term.{degreeOf}
 use Rattle.polynomial.specs.Polynomial.{ZERO, ONE}
 use Rattle.configuration.specs.Weight.{limit}
-use Rattle.configuration.specs.Configuration.{Line, line, some, weight, anyNegative}
+use Rattle.configuration.specs.Configuration.{Line, polynomialOf, some, weight, anyNegative}
 use Rattle.configuration.specs.Made.{Made}
 use Rattle.refusal.specs.Refusal.{numberOf}
 use Rattle.calculus.specs.Calculus.{step}
@@ -20,7 +20,7 @@ use Rattle.calculus.specs.declared.Mode.{Mode}
 use Rattle.calculus.specs.declared.Mode.the-variants.{Plain, Signed}
 use Rattle.record.specs.Letters.{letterN, letterZ, letterM, letterK, letterS, letterP, letterB}
 use Rattle.record.specs.Record.{whole, signedAt}
-use Rattle.walk.specs.Walk.{Progress, past, Reader, readAll, verdict}
+use Rattle.walk.specs.Walk.{Progress, begun, past, Reader, readAll, verdict, gathered}
 use Rattle.walk.specs.Work.{termAdded}
 use Rattle.derivation.specs.declared.CheckAnswer.{CheckAnswer}
 use Rattle.derivation.specs.declared.CheckAnswer.the-variants.{Confirmed, Refused}
@@ -138,14 +138,27 @@ onRecord n s p =
 abbrev pub checking : ℕ → Reader State
 checking n = record { onRecord = onRecord n; complete = λ x. x .closed }
 
--- ---- "The derivation's degree is the largest degree of a term in the standing it leaves, 0 for an empty one"
-unfoldable pub degreeMax : List ℕ → ℕ
-degreeMax [] = 0
-degreeMax (t ∷ f) = max (degreeOf t) (degreeMax f)
+-- ---- the degree
+-- the largest of some numbers, one for each member of a list; 0 of none
+unfoldable pub largest : {A : Type 0} → (A → ℕ) → List A → ℕ
+largest h [] = 0
+largest h (x ∷ l) = max (h x) (largest h l)
 
+-- the largest degree of a term in a configuration
 unfoldable pub degreeIn : List Line → ℕ
-degreeIn [] = 0
-degreeIn (line f w ∷ L) = max (degreeMax f) (degreeIn L)
+degreeIn L = largest (λ l. largest degreeOf (polynomialOf l)) L
+
+-- what the record leaves that leads from p to q
+abbrev pub leftAfter : List ℕ → Progress State → Progress State → List (List Line)
+leftAfter s p q = q .state .lines ∷ []
+
+-- the configurations on the way: at the start, and after each accepted record
+abbrev pub onTheWay : List ℕ → ℕ → List Line → List (List Line)
+onTheWay s n L = L ∷ gathered (checking n) leftAfter (length s) s (begun (fresh L))
+
+-- document 02: "the largest degree met on the way: over the standing at the start and after each accepted record"
+unfoldable pub derivationDegree : List ℕ → ℕ → List Line → ℕ
+derivationDegree s n L = largest degreeIn (onTheWay s n L)
 
 -- ---- what a check makes of its bytes and a configuration of n variables
 -- a claim that is confirmed, and the degree
@@ -163,7 +176,7 @@ checkDerivation s n L =
     record {
       variables = n;
       lines = x .lines;
-      told = verdict (r .reached .records) (record { claim = x .claim; degree = degreeIn (x .lines) }) (r .stop);
+      told = verdict (r .reached .records) (record { claim = x .claim; degree = derivationDegree s n L }) (r .stop);
     }
 
 -- the paper's words for an answer

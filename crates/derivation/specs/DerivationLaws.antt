@@ -29,7 +29,7 @@ use Rattle.walk.specs.Walk.{Progress, begun, past, readAll, verdict}
 use Rattle.walk.specs.Work.{termAdded}
 use Rattle.walk.specs.WalkLaws.{unless-ind, mapped-ind, IfAccepted, walk-keeps, walk-complete}
 use Rattle.walk.specs.WorkLaws.{term-polynomial}
-use Rattle.derivation.specs.Derivation.{State, fresh, going, having, begins, closes, onMode, onTerm, onChoice, onStep, claimFits, onClaim, onRecord, checking, degreeIn, Confirmation, confirmed, checkDerivation}
+use Rattle.derivation.specs.Derivation.{State, fresh, going, having, begins, closes, onMode, onTerm, onChoice, onStep, claimFits, onClaim, onRecord, checking, derivationDegree, Confirmation, confirmed, checkDerivation}
 use Rattle.run.specs.BooleanLaws as B
 
 -- ---- one record: what an accepted one passed, and what it makes
@@ -140,18 +140,18 @@ walked s n L = readAll (checking n) s (fresh L)
 abbrev pub reached : List ℕ → ℕ → List Line → State
 reached s n L = (walked s n L) .reached .state
 
--- what is made where a walk ends
-abbrev pub madeBy : ℕ → Reached (Progress State) → Made Confirmation
-madeBy n r =
+-- what is made where a walk ends and the degree is D
+abbrev pub madeBy : ℕ → ℕ → Reached (Progress State) → Made Confirmation
+madeBy n D r =
     let x = r .reached .state in
     record {
       variables = n;
       lines = x .lines;
-      told = verdict (r .reached .records) (record { claim = x .claim; degree = degreeIn (x .lines) }) (r .stop);
+      told = verdict (r .reached .records) (record { claim = x .claim; degree = D }) (r .stop);
     }
 
 module _ (s : List ℕ) (n : ℕ) (L : List Line) where
-  pub check-is : checkDerivation s n L ≡ madeBy n (walked s n L)
+  pub check-is : checkDerivation s n L ≡ madeBy n (derivationDegree s n L) (walked s n L)
   unfolding checkDerivation
   check-is = refl
 
@@ -201,16 +201,20 @@ confirmed-stop k c (refusedFor n) w D e = let z : _≡_ {A = ℕ} 0 1 = cc in le
     go (negsuc a) (negsuc b) (negsuc c) h k = le→leb c a (omega (arith, leb→le b a h, leb→le c b k))
 
 module _ (s : List ℕ) (n : ℕ) (L : List Line) (w : ℤ) (D : ℕ) (e : checkDerivation s n L .told ≡ confirmed w D) where
-  says : ((walked s n L) .stop ≡ nothing) × (w ≡ reached s n L .claim) × (D ≡ degreeIn (reached s n L .lines))
+  says : ((walked s n L) .stop ≡ nothing) × (w ≡ reached s n L .claim) × (D ≡ derivationDegree s n L)
   says = confirmed-stop ((walked s n L) .reached .records) _ ((walked s n L) .stop) w D (sym (ap (λ (m : Made Confirmation). m .told) (check-is s n L)) ∙ e)
 
-  -- the degree is that of the lines that are left
-  pub confirmed-degree : D ≡ degreeIn (checkDerivation s n L .lines)
-  confirmed-degree = says .2 ∙ sym (ap degreeIn (check-lines s n L))
+  -- the degree is the derivation's
+  pub confirmed-degree : D ≡ derivationDegree s n L
+  confirmed-degree = says .2
+
+  -- a claim is accepted
+  pub confirmed-closed : T (reached s n L .closed)
+  confirmed-closed = walk-complete (checking n) (length s) s (begun (fresh L)) (says .0)
 
   module _ (h : T (isConfiguration n L)) where
     claimed : let x = reached s n L in T (claimFits (x .claim)) × (anyNegative (x .lines) ≡ false) × (x .claim ≤ℤ weight (x .lines) ONE)
-    claimed = sound-check s n L h .claimed (walk-complete (checking n) (length s) s (begun (fresh L)) (says .0))
+    claimed = sound-check s n L h .claimed confirmed-closed
 
     -- the claim is from 0 to 10^12
     pub confirmed-range : T (claimFits w)

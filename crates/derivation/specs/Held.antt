@@ -3,19 +3,19 @@
 use mathlib.Core.Path.{_≡_}
 use mathlib.Core.Bool.{Bool, true, false, cond}
 use mathlib.Core.List.{List}
-use Prim.Native.Nat.{ℕ, _+_, _≤_}
+use Prim.Native.Nat.{ℕ, _+_, _≤_, max}
 use lib.Dec.{T, eqb}
 use lib.IntN.{ℤ, pos}
 use lib.ListN.{length, take}
 use Rattle.refusal.specs.Outcome.{Outcome, Reached, after, stopOf}
-use Rattle.polynomial.specs.Polynomial.{ZERO}
-use Rattle.configuration.specs.Configuration.{weightsFit}
+use Rattle.polynomial.specs.Polynomial.{ZERO, Ordered}
+use Rattle.configuration.specs.Configuration.{Every, weightsFit}
 use Rattle.table.specs.Rows.{Table, withLines, linesOf, Fits}
 use Rattle.calculus.specs.declared.Rule.the-variants.{Sum, Prod}
 use Rattle.calculus.specs.declared.Mode.the-variants.{Plain, Signed}
 use Rattle.step.specs.Stepping.{Operand}
 use Rattle.record.specs.Letters.{letterN, letterZ, letterM, letterK, letterS, letterP, letterB}
-use Rattle.derivation.specs.Derivation.{State}
+use Rattle.derivation.specs.Derivation.{State, degreeIn}
 use Rattle.derivation.specs.declared.Kind.{Kind}
 use Rattle.derivation.specs.declared.Kind.the-variants.{Start, Term, Choice, Step, Claim, Unknown}
 use Rattle.derivation.specs.declared.Progress.{Progress}
@@ -56,9 +56,9 @@ progressIn p fs us t = record {
 abbrev pub leftIn : Recorded → List ℕ → List ℕ → Table → Reached (W.Progress State)
 leftIn r fs us t = record { reached = progressIn (r .progress) fs us t; stop = stopOf (r .objection) }
 
--- the progress before the first record, where the table has so many lines
-abbrev pub openingOf : ℕ → Progress
-openingOf lines = record {
+-- the progress before the first record, where the table has so many lines, and this is their degree
+abbrev pub openingOf : ℕ → ℕ → Progress
+openingOf lines degree = record {
   at = 0;
   records = 0;
   started = false;
@@ -69,11 +69,12 @@ openingOf lines = record {
   lines = lines;
   closed = false;
   claim = pos 0;
+  degree = degree;
 }
 
--- the progress after a record of so many bytes: f, set or not, and the work polynomial have so many terms, and the table so many lines
-abbrev pub passed : Progress → ℕ → Bool → ℕ → ℕ → ℕ → Progress
-passed p size chosen first work lines = record {
+-- the progress after a record of so many bytes: f, set or not, and the work polynomial have so many terms, the table so many lines, and this is the largest degree so far
+abbrev pub passed : Progress → ℕ → Bool → ℕ → ℕ → ℕ → ℕ → Progress
+passed p size chosen first work lines degree = record {
   at = p .at + size;
   records = p .records + 1;
   started = p .started;
@@ -84,6 +85,7 @@ passed p size chosen first work lines = record {
   lines = lines;
   closed = p .closed;
   claim = p .claim;
+  degree = degree;
 }
 
 -- the progress after an accepted claim
@@ -99,6 +101,7 @@ closing p w = record {
   lines = p .lines;
   closed = true;
   claim = w;
+  degree = p .degree;
 }
 
 -- ---- what holds before each record
@@ -109,15 +112,21 @@ pub record Ready (p : Progress) (fs us : List ℕ) (t : Table) : Type 0 where
   pub area : length us ≡ 64
   pub room : p .work ≤ 64
   pub counted : p .records ≤ p .at
+  pub met : degreeIn (linesOf t) ≤ p .degree
 
 abbrev pub Held : Progress → List ℕ → List ℕ → Table → Type 0
 Held p fs us t = Ready p fs us (withLines (p .lines) t)
 
 -- what a step asks of f, the work polynomial and the lines
 abbrev pub Usable : State → Type 0
-Usable x = Operand (x .first) × Operand (x .work) × T (weightsFit (x .lines))
+Usable x = Operand (x .first) × Operand (x .work) × T (weightsFit (x .lines)) × Every Ordered (x .lines)
 
--- ---- a record that code has read leaves what a definition says, and what holds before the next. f, the work polynomial and the table stand in fs, us and t before
--- it, in gs, vs and u after it.
+-- ---- a record that code has read leaves what a definition says of it, and what holds before the next, and the largest degree so far counts the lines that are left. f,
+-- the work polynomial and the table stand in fs, us and t before it, in gs, vs and u after it.
+abbrev pub Leaves : Outcome (W.Progress State) → Progress → List ℕ → List ℕ → Table → Recorded → List ℕ → List ℕ → Table → Type 0
+Leaves x p fs us t r gs vs u =
+    (leftIn r gs vs u ≡ after (progressIn p fs us t) x) × Held (r .progress) gs vs u
+    × (r .progress .degree ≡ max (p .degree) (degreeIn (linesOf (withLines (r .progress .lines) u))))
+
 abbrev pub Does : (W.Progress State → Outcome (W.Progress State)) → Progress → List ℕ → List ℕ → Table → Recorded → List ℕ → List ℕ → Table → Type 0
-Does on p fs us t r gs vs u = Held p fs us t → (leftIn r gs vs u ≡ after (progressIn p fs us t) (on (progressIn p fs us t))) × Held (r .progress) gs vs u
+Does on p fs us t r gs vs u = Held p fs us t → Leaves (on (progressIn p fs us t)) p fs us t r gs vs u

@@ -1,5 +1,6 @@
 pub mod Derivation
 pub mod Held
 pub mod DerivationLaws
-pub mod DegreeLaws
 pub mod RefusedLaws
+pub mod DegreeLaws
+pub mod ContinuedLaws

@@ -1,14 +1,14 @@
 -- A refused check: it names the record after the accepted ones, and leaves what these make. The first accepted records, alone, are accepted again.
-use mathlib.Core.Path.{_≡_, refl, sym, ap, ap₂, _∙_}
+use mathlib.Core.Path.{_≡_, refl, sym, ap, ap₂, subst, _∙_}
 use mathlib.Core.Bool.{Bool, true, false, cond, not, _&&_}
-use mathlib.Core.List.{List}
+use mathlib.Core.List.{List, _++_}
 use Prim.Native.Nat.{ℕ, suc, _+_, _≤_, _<_}
 use native.Mathlib.Omega.{arith}
 use lib.Dec.{leb→le, eqb}
 use lib.IntN.{ℤ}
 use lib.Signed.{leZ}
-use lib.ListN.{length, getD, take}
-use lib.Seq.{getD-take}
+use lib.ListN.{length, getD, take, length-append}
+use lib.Seq.{getD-take, take-append-seam}
 use Rattle.refusal.specs.Outcome.{Outcome, accepted, refused, unless, mapped, refusedFor, refusedAt}
 use Rattle.polynomial.specs.Polynomial.{ZERO, ONE}
 use Rattle.configuration.specs.Configuration.{Line, some, weight, anyNegative}
@@ -24,7 +24,7 @@ use Rattle.walk.specs.Walk.{Progress, begun, past, over, walk, Refusal, accepte
 use Rattle.walk.specs.Work.{termAdded}
 use Rattle.walk.specs.WalkLaws.{told-refused, unless-ind, mapped-ind, IfAccepted, Ends, same-outcome, Local, refused-record, turns-records, records-prefix}
 use Rattle.walk.specs.WorkLaws.{term-inside, term-take}
-use Rattle.derivation.specs.Derivation.{State, fresh, going, having, closes, onMode, onTerm, onChoice, afterStep, onStep, claimFits, onClaim, onRecord, checking, Confirmation, checkDerivation}
+use Rattle.derivation.specs.Derivation.{State, fresh, going, having, closes, onMode, onTerm, onChoice, afterStep, onStep, claimFits, onClaim, onRecord, checking, derivationDegree, Confirmation, checkDerivation}
 use Rattle.derivation.specs.DerivationLaws.{record-ind, walked, madeBy, check-is, check-lines}
 
 -- ---- an accepted record takes bytes that are there, and counts as one
@@ -84,17 +84,25 @@ module _ (n : ℕ) (s : List ℕ) (p : Progress State) where
       unless-ind E (not (anyNegative (x .lines))) 12 (λ k. tt) (λ d.
       unless-ind E (leZ w (weight (x .lines) ONE)) 13 (λ k. tt) (λ e. refl)))))
 
-record-prefix : (n : ℕ) (s : List ℕ) (p q : Progress State) (K : ℕ) → K ≤ length s → q .at ≤ K → onRecord n s p ≡ accepted q → onRecord n (take K s) p ≡ accepted q
-unfolding onRecord
-record-prefix n s p q K l h e =
-    let kind : ℕ = getD s (p .at) 0 in
-    let d : p .at < K = omega (arith, record-inside n s p q e .0) in
-    rw (getD-take K s (p .at) 0 d) (go (eqb kind letterN) (eqb kind letterZ) (eqb kind letterM) (eqb kind letterK) (eqb kind letterS) (eqb kind letterP)
-    (eqb kind letterB) e)
-  where
-    z : List ℕ
-    z = take K s
+-- in two lists of bytes each kind of record at a progress is the same, where it ends at K or before
+record SameUpTo (n : ℕ) (p : Progress State) (K : ℕ) (s z : List ℕ) : Type 0 where
+  kind : getD z (p .at) 0 ≡ getD s (p .at) 0
+  terms : p .at + 5 ≤ K → onTerm n z p ≡ onTerm n s p
+  steps : (r : Rule) → p .at + 9 ≤ K → onStep r z p ≡ onStep r s p
+  claims : p .at + 9 ≤ K → onClaim z p ≡ onClaim s p
 
+same-take : (n : ℕ) (p : Progress State) (K : ℕ) (s : List ℕ) → K ≤ length s → p .at < K → SameUpTo n p K s (take K s)
+same-take n p K s l d = record { kind = getD-take K s (p .at) 0 d; terms = terms-take n s p K l; steps = steps-take n s p K l; claims = claims-take n s p K l }
+
+same-sym : (n : ℕ) (p : Progress State) (K : ℕ) (s z : List ℕ) → SameUpTo n p K s z → SameUpTo n p K z s
+same-sym n p K s z a = record { kind = sym (a .kind); terms = λ h. sym (a .terms h); steps = λ r h. sym (a .steps r h); claims = λ h. sym (a .claims h) }
+
+same-record : (n : ℕ) (p q : Progress State) (K : ℕ) (s z : List ℕ) → SameUpTo n p K s z → q .at ≤ K → onRecord n s p ≡ accepted q → onRecord n z p ≡ accepted q
+unfolding onRecord
+same-record n p q K s z both h e =
+    let kind : ℕ = getD s (p .at) 0 in
+    rw (both .kind) (go (eqb kind letterN) (eqb kind letterZ) (eqb kind letterM) (eqb kind letterK) (eqb kind letterS) (eqb kind letterP) (eqb kind letterB) e)
+  where
     go : (a b c d i j k : Bool)
         → cond a (onMode Plain p) (cond b (onMode Signed p) (cond c (onTerm n s p) (cond d (onChoice p)
         (cond i (onStep Sum s p) (cond j (onStep Prod s p) (cond k (onClaim s p) (refused 4))))))) ≡ accepted q
@@ -102,12 +110,24 @@ record-prefix n s p q K l h e =
         (cond i (onStep Sum z p) (cond j (onStep Prod z p) (cond k (onClaim z p) (refused 4))))))) ≡ accepted q
     go true b c d i j k f = f
     go false true c d i j k f = f
-    go false false true d i j k f = same-outcome (p .at + 5) K (onTerm n s p) (onTerm n z p) q (ends-term n s p) (terms-take n s p K l) h f
+    go false false true d i j k f = same-outcome (p .at + 5) K (onTerm n s p) (onTerm n z p) q (ends-term n s p) (both .terms) h f
     go false false false true i j k f = f
-    go false false false false true j k f = same-outcome (p .at + 9) K (onStep Sum s p) (onStep Sum z p) q (ends-step n s p Sum) (steps-take n s p K l Sum) h f
-    go false false false false false true k f = same-outcome (p .at + 9) K (onStep Prod s p) (onStep Prod z p) q (ends-step n s p Prod) (steps-take n s p K l Prod) h f
-    go false false false false false false true f = same-outcome (p .at + 9) K (onClaim s p) (onClaim z p) q (ends-claim n s p) (claims-take n s p K l) h f
+    go false false false false true j k f = same-outcome (p .at + 9) K (onStep Sum s p) (onStep Sum z p) q (ends-step n s p Sum) (both .steps Sum) h f
+    go false false false false false true k f = same-outcome (p .at + 9) K (onStep Prod s p) (onStep Prod z p) q (ends-step n s p Prod) (both .steps Prod) h f
+    go false false false false false false true f = same-outcome (p .at + 9) K (onClaim s p) (onClaim z p) q (ends-claim n s p) (both .claims) h f
     go false false false false false false false f = f
+
+record-prefix : (n : ℕ) (s : List ℕ) (p q : Progress State) (K : ℕ) → K ≤ length s → q .at ≤ K → onRecord n s p ≡ accepted q → onRecord n (take K s) p ≡ accepted q
+record-prefix n s p q K l h e = same-record n p q K s (take K s) (same-take n p K s l (omega (arith, record-inside n s p q e .0))) h e
+
+-- and bytes behind it change nothing
+pub record-more : (n : ℕ) (s t : List ℕ) (p q : Progress State) → onRecord n s p ≡ accepted q → onRecord n (s ++ t) p ≡ accepted q
+record-more n s t p q e =
+    let K : ℕ = length s in
+    let i : (p .at < q .at) × (q .at ≤ K) × (q .records ≡ suc (p .records)) = record-inside n s p q e in
+    let l : K ≤ length (s ++ t) = omega (arith, length-append s t) in
+    let a : SameUpTo n p K (s ++ t) s = subst (SameUpTo n p K (s ++ t)) (take-append-seam s t) (same-take n p K (s ++ t) l (omega (arith, i .0, i .1))) in
+    same-record n p q K s (s ++ t) (same-sym n p K (s ++ t) s a) (i .1) e
 
 pub checking-local : (n : ℕ) → Local (checking n)
 checking-local n = record { inside = record-inside n; prefix = record-prefix n }
@@ -122,8 +142,11 @@ pub check-prefix-records : (s : List ℕ) (n : ℕ) (L : List Line) (k : ℕ) �
 check-prefix-records s n L k h = turns-records (checking n) (checking-local n) k (length s) s (begun (fresh L)) (omega arith) ∙ omega arith
 
 -- a check of their bytes comes to their end: none of them is refused
-pub check-prefix : (s : List ℕ) (n : ℕ) (L : List Line) (k : ℕ) → checkDerivation (take (reachedIn k s n L .at) s) n L ≡ madeBy n (over (checking n) (reachedIn k s n L))
-check-prefix s n L k = check-is (take (reachedIn k s n L .at) s) n L ∙ ap (madeBy n) (records-prefix (checking n) (checking-local n) k s (fresh L))
+pub check-prefix : (s : List ℕ) (n : ℕ) (L : List Line) (k : ℕ)
+    → (let z = take (reachedIn k s n L .at) s in checkDerivation z n L ≡ madeBy n (derivationDegree z n L) (over (checking n) (reachedIn k s n L)))
+check-prefix s n L k =
+    let z : List ℕ = take (reachedIn k s n L .at) s in
+    check-is z n L ∙ ap (madeBy n (derivationDegree z n L)) (records-prefix (checking n) (checking-local n) k s (fresh L))
 
 module _ (s : List ℕ) (n : ℕ) (L : List Line) (K k : ℕ) (e : checkDerivation s n L .told ≡ refusedAt K k) where
   -- it names the record after the accepted ones

@@ -1,6 +1,7 @@
 // What each kind of record does in a derivation. These functions are for `on_record` of this crate alone.
 use crate::Progress;
 use crate::Recorded;
+use crate::degree::largest_degree;
 use calculus::Mode;
 use calculus::Rule;
 use polynomial::Polynomial;
@@ -59,7 +60,8 @@ fn is_idle(p: Progress) -> bool
     p.work == Polynomial::ZERO.count
 }
 
-// An accepted record of so many bytes, which leaves f, set or not, and a work polynomial, of so many terms, and so many lines.
+// An accepted record of so many bytes, which leaves f, set or not, and a work polynomial, of so many terms, and so many lines,
+// where this is the largest degree so far.
 fn accepted(
     p: Progress,
     size: usize,
@@ -67,9 +69,10 @@ fn accepted(
     first: usize,
     work: usize,
     lines: usize,
+    degree: u32,
 ) -> Recorded
     requires { ⌜ (p .at + size < 18446744073709551616) × (p .records < 18446744073709551615) ⌝ }
-    ensures { λ r. ⌜ r ≡ record { progress = passed p size chosen first work lines; objection = Objection.Nothing } ⌝ }
+    ensures { λ r. ⌜ r ≡ record { progress = passed p size chosen first work lines degree; objection = Objection.Nothing } ⌝ }
 {
     let mode = p.mode;
     Recorded {
@@ -84,6 +87,7 @@ fn accepted(
             lines,
             closed: p.closed,
             claim: p.claim,
+            degree,
         },
         objection: Objection::Nothing,
     }
@@ -109,6 +113,7 @@ pub fn on_mode(p: Progress, mode: Mode) -> Recorded
             lines: p.lines,
             closed: p.closed,
             claim: p.claim,
+            degree: p.degree,
         },
         objection: Objection::Nothing,
     }
@@ -128,7 +133,7 @@ pub fn on_term(variables: u32, bytes: &[u8], p: Progress, work: &mut [u32]) -> R
     if let Objection::Found(reason) = objection {
         return refused(p, reason);
     }
-    accepted(p, 5, p.chosen, p.first, added.count, p.lines)
+    accepted(p, 5, p.chosen, p.first, added.count, p.lines, p.degree)
 }
 
 // K: the work polynomial becomes f, and is cleared.
@@ -144,7 +149,7 @@ pub fn on_choice(p: Progress, first: &mut [u32], work: &[u32]) -> Recorded
     }
     let count = p.work;
     write(first, 0, &work[..count]);
-    accepted(p, 1, true, count, Polynomial::ZERO.count, p.lines)
+    accepted(p, 1, true, count, Polynomial::ZERO.count, p.lines, p.degree)
 }
 
 // S, P: a step of f with the work polynomial; both are cleared.
@@ -193,8 +198,10 @@ pub fn on_step(
     if let Objection::Found(reason) = objection {
         return refused(p, reason);
     }
+    let left = stepped.lines;
+    let degree = largest_degree(p.degree, left, order, terms, weights, counts);
     let cleared = Polynomial::ZERO.count;
-    accepted(p, 9, false, cleared, cleared, stepped.lines)
+    accepted(p, 9, false, cleared, cleared, left, degree)
 }
 
 // Whether a claim is from 0 to 10^12.
@@ -225,6 +232,7 @@ fn closed_with(p: Progress, claim: i64) -> Recorded
             lines: p.lines,
             closed: true,
             claim,
+            degree: p.degree,
         },
         objection: Objection::Nothing,
     }

@@ -1,8 +1,10 @@
 // Checking a derivation, on the lines of a table.
+mod degree;
 mod entry;
 
 use calculus::Mode;
 use calculus::Rule;
+use degree::largest_degree;
 use entry::on_choice;
 use entry::on_claim;
 use entry::on_mode;
@@ -12,8 +14,6 @@ use entry::refused;
 use polynomial::Polynomial;
 use refusal::Objection;
 use refusal::Reason;
-use table::order::row_at;
-use term::degree;
 ghost use mathlib.Core.Path.{_≡_};
 ghost use mathlib.Core.Bool.{cond};
 ghost use Prim.Native.Nat.{_<_};
@@ -40,9 +40,9 @@ pub struct Check {
 }
 
 // How far a check has come: where the next record begins, how many terms f and the work polynomial have, how many lines the
-// table has, how many records are accepted, the claim, whether N or Z was among them, the mode, whether f is set, whether B was
-// among them. The terms of f and of the work polynomial stand at the fronts of two areas of 64. The small fields stand together
-// and last, since this goes by value from record to record.
+// table has, how many records are accepted, the claim, the largest degree met so far, whether N or Z was among the records, the
+// mode, whether f is set, whether B was among them. The terms of f and of the work polynomial stand at the fronts of two areas
+// of 64. The small fields stand together and last, since this goes by value from record to record.
 pub struct Progress {
     pub at: usize,
     pub first: usize,
@@ -50,6 +50,7 @@ pub struct Progress {
     pub lines: usize,
     pub records: u64,
     pub claim: i64,
+    pub degree: u32,
     pub started: bool,
     pub mode: Mode,
     pub chosen: bool,
@@ -117,36 +118,23 @@ fn on_record(
     }
 }
 
-// The degree of the lines of a table: that of the first term of the first line, since lines and terms stand in order. It is for
-// `finish`.
-fn degree_of(lines: usize, order: &[u64], terms: &[u32], weights: &[i64], counts: &[u32]) -> u32
-    requires { let t = tableAt lines order terms weights counts in ⌜ Fits 128 t × Every Ordered (linesOf t) ⌝ }
-    ensures { λ r. ⌜ r ≡ degreeIn (linesOf (tableBefore lines order terms weights counts)) ⌝ }
-{
-    if lines == 0 {
-        return 0;
-    }
-    let first = row_at(order, 0);
-    degree(terms[64 * first])
-}
-
 // The end of the bytes: B must have come. It is for `check_derivation`.
-fn finish(p: Progress, order: &[u64], terms: &[u32], weights: &[i64], counts: &[u32]) -> CheckAnswer
-    requires { let t = tableAt (p .lines) order terms weights counts in ⌜ Fits 128 t × Every Ordered (linesOf t) × (p .records < 18446744073709551615) ⌝ }
-    ensures { λ r. let d = degreeIn (linesOf (tableBefore (p .lines) order terms weights counts)) in
-        ⌜ toldOfCheck r ≡ verdict (p .records) (record { claim = p .claim; degree = d }) (cond (p .closed) nothing (refusedFor 15)) ⌝ }
+fn finish(p: Progress) -> CheckAnswer
+    requires { ⌜ p .records < 18446744073709551615 ⌝ }
+    ensures { λ r. ⌜ toldOfCheck r ≡ verdict (p .records) (record { claim = p .claim; degree = p .degree }) (cond (p .closed) nothing (refusedFor 15)) ⌝ }
 {
     if !p.closed {
         return CheckAnswer::Refused(p.records + 1, Reason::Unfinished);
     }
-    let degree = degree_of(p.lines, order, terms, weights, counts);
-    CheckAnswer::Confirmed(p.claim, degree)
+    CheckAnswer::Confirmed(p.claim, p.degree)
 }
 
-// The progress before the first record.
-fn opening(lines: usize) -> Progress
-    ensures { λ r. ⌜ r ≡ openingOf lines ⌝ }
+// The progress before the first record; the lines at the start count for the degree. It is for `check_derivation`.
+fn opening(lines: usize, order: &[u64], terms: &[u32], weights: &[i64], counts: &[u32]) -> Progress
+    requires { let t = tableAt lines order terms weights counts in ⌜ Fits 128 t × Every Ordered (linesOf t) ⌝ }
+    ensures { λ r. ⌜ r ≡ openingOf lines (degreeIn (linesOf (tableBefore lines order terms weights counts))) ⌝ }
 {
+    let degree = largest_degree(0, lines, order, terms, weights, counts);
     Progress {
         at: 0,
         records: 0,
@@ -158,6 +146,7 @@ fn opening(lines: usize) -> Progress
         lines,
         closed: false,
         claim: 0,
+        degree,
     }
 }
 
@@ -180,7 +169,7 @@ pub fn check_derivation(
     let zero = Polynomial::ZERO;
     let mut first = zero.terms;
     let mut work = zero.terms;
-    let mut p = opening(lines);
+    let mut p = opening(lines, order, terms, weights, counts);
     while p.at < bytes.len() {
         let recorded = on_record(
             bytes,
@@ -203,7 +192,7 @@ pub fn check_derivation(
             };
         }
     }
-    let answer = finish(p, order, terms, weights, counts);
+    let answer = finish(p);
     Check {
         lines: p.lines,
         answer,

@@ -7,15 +7,16 @@ use lib.ListN.{length, replicate}
 use denote.Ref.{now}
 use borrow.Author.Needs.{needs}
 use Rattle.table.specs.Rows.{Table, linesOf}
+use Rattle.derivation.specs.Derivation.{derivationDegree}
 use Rattle.derivation.specs.DerivationLaws.{walked, check-is}
-use Rattle.derivation.proofs.Loops.{Walks, starts, asks, goes-on, fewer, refused-count, refused-there, ordered-there, ends-there}
+use Rattle.derivation.proofs.Loops.{Walks, ordered-first, starts, asks, goes-on, fewer, refused-count, refused-there, ends-there}
 use Rattle.derivation.proofs.check_derivation.Statement.{statement}
 use Rattle.derivation.proofs.check_derivation.Tie as tie
 
 abbrev Inv-loop : tie.InvT-loop
 Inv-loop bytes n lines order₀ terms₀ weights₀ counts₀ first₀ work₀ p₀ order terms weights counts first work p =
     let L = linesOf (record { lines = lines; order = order₀; terms = terms₀; weights = weights₀; counts = counts₀ }) in
-    Walks n bytes (walked bytes n L) p first work (record { lines = p .lines; order = order; terms = terms; weights = weights; counts = counts })
+    Walks n bytes (derivationDegree bytes n L) (walked bytes n L) p first work (record { lines = p .lines; order = order; terms = terms; weights = weights; counts = counts })
     × (length order ≡ length order₀) × (length terms ≡ length terms₀) × (length weights ≡ length weights₀) × (length counts ≡ length counts₀)
 
 abbrev μ-loop : tie.MeasureT-loop
@@ -42,11 +43,13 @@ after-it k =
     }
 
 opening-requires : tie.Need-opening-requires Inv-loop μ-loop
-opening-requires c κs = search needs
+opening-requires c κs =
+    let s = c .before .before .before .before .before .before .before .before .before .before in
+    (s .pre .0, ordered-first (s .args .variables) (linesOf (table s)) (s .pre .1))
 
 loop-holds : tie.Need-loop-holds Inv-loop μ-loop
 loop-holds c =
-    let s = c .before .before .before .before .before .before .before in
+    let s = c .before .before .before .before .before .before .before .before .before .before .before in
     let a = s .args in
     let zeros : List ℕ = replicate 64 0 in
     rw (c .opening .ensures) (
@@ -65,20 +68,20 @@ slice-aggregate-on-record-2 c = sym (c .before .before .before .before .loop .in
 
 on-record-requires : tie.Need-on-record-requires Inv-loop μ-loop
 on-record-requires c κs =
-    let s = c .before .before .before .before .before .before .before .before .before .before .before .before .before .before .before .before in
+    let s = c .before .before .before .before .before .before .before .before .before .before .before .before .before .before .before .before .before .before .before .before in
     let l = c .before .before .before .before .before .before .before .before in
-    asks (s .args .variables) (now (s .args .bytes)) _ (l .loop .p) (l .loop .first) (l .loop .work) (now-at l) (l .loop .inv .0) (c .before .before .before .before .before .before .if1 .taken)
+    asks (s .args .variables) (now (s .args .bytes)) _ _ (l .loop .p) (l .loop .first) (l .loop .work) (now-at l) (l .loop .inv .0) (c .before .before .before .before .before .before .if1 .taken)
 
 enum-known-objection : tie.Need-enum-known-objection Inv-loop μ-loop
 enum-known-objection c = search needs
 
-add-t32 : tie.Need-add-t32 Inv-loop μ-loop
-add-t32 c =
+add-t40 : tie.Need-add-t40 Inv-loop μ-loop
+add-t40 c =
     let k = c .before .before .before .before .before .before .before .before .before .before .before .before .before .before in
     let l = c .before .before .before .before .before .before .before .before .before .before .before .before .before .before .before .before .before .before .before .before .before .before .before in
-    let s = c .before .before .before .before .before .before .before .before .before .before .before .before .before .before .before .before .before .before .before .before .before .before .before .before .before .before .before .before .before .before .before in
+    let s = c .before .before .before .before .before .before .before .before .before .before .before .before .before .before .before .before .before .before .before .before .before .before .before .before .before .before .before .before .before .before .before .before .before .before .before in
     let d = c .before .before .objection in
-    let h = refused-count (s .args .variables) (now (s .args .bytes)) _ (l .loop .p) (l .loop .first) (l .loop .work) (now-at l) (l .loop .inv .0)
+    let h = refused-count (s .args .variables) (now (s .args .bytes)) _ _ (l .loop .p) (l .loop .first) (l .loop .work) (now-at l) (l .loop .inv .0)
     (c .before .before .before .before .before .before .before .before .before .before .before .before .before .before .before .before .before .before .before .before .before .if1 .taken) (k .on-record .result) (k .on-record .last .1 .1 .1 .0) (k .on-record .last .1 .1 .1 .1 .0) (after-it k) (k .on-record .ensures (l .loop .inv .0 .0))
     (d .given .0 .0) (d .given .1) in
     record { fits = omega (arith, h, s .good .0) }
@@ -99,9 +102,9 @@ returns : tie.Need-returns Inv-loop μ-loop
 returns c =
     let k = c .before .before .before .before .before .before .before .before .before .before .before .before .before .before in
     let l = c .before .before .before .before .before .before .before .before .before .before .before .before .before .before .before .before .before .before .before .before .before .before .before in
-    let s = c .before .before .before .before .before .before .before .before .before .before .before .before .before .before .before .before .before .before .before .before .before .before .before .before .before .before .before .before .before .before .before in
+    let s = c .before .before .before .before .before .before .before .before .before .before .before .before .before .before .before .before .before .before .before .before .before .before .before .before .before .before .before .before .before .before .before .before .before .before .before in
     let d = c .before .before .objection in
-    let e = refused-there (s .args .variables) (now (s .args .bytes)) _ (l .loop .p) (l .loop .first) (l .loop .work) (now-at l) (l .loop .inv .0)
+    let e = refused-there (s .args .variables) (now (s .args .bytes)) _ _ (l .loop .p) (l .loop .first) (l .loop .work) (now-at l) (l .loop .inv .0)
     (c .before .before .before .before .before .before .before .before .before .before .before .before .before .before .before .before .before .before .before .before .before .if1 .taken) (k .on-record .result) (k .on-record .last .1 .1 .1 .0) (k .on-record .last .1 .1 .1 .1 .0) (after-it k) (k .on-record .ensures (l .loop .inv .0 .0))
     (d .given .0 .0) (d .given .1) in
     (e ∙ sym (check-is (now (s .args .bytes)) (s .args .variables) (linesOf (table s))), k .on-record .ensures (l .loop .inv .0 .0) .1 .fits)
@@ -113,8 +116,8 @@ loop-less : tie.Need-loop-less Inv-loop μ-loop
 loop-less c =
     let k = c .before .before .before .before .before .before .before .before .before .before .before .before in
     let l = c .before .before .before .before .before .before .before .before .before .before .before .before .before .before .before .before .before .before .before .before .before in
-    let s = c .before .before .before .before .before .before .before .before .before .before .before .before .before .before .before .before .before .before .before .before .before .before .before .before .before .before .before .before .before in
-    fewer (s .args .variables) (now (s .args .bytes)) _ (l .loop .p) (l .loop .first) (l .loop .work) (now-at l) (l .loop .inv .0)
+    let s = c .before .before .before .before .before .before .before .before .before .before .before .before .before .before .before .before .before .before .before .before .before .before .before .before .before .before .before .before .before .before .before .before .before in
+    fewer (s .args .variables) (now (s .args .bytes)) _ _ (l .loop .p) (l .loop .first) (l .loop .work) (now-at l) (l .loop .inv .0)
     (c .before .before .before .before .before .before .before .before .before .before .before .before .before .before .before .before .before .before .before .if1 .taken) (k .on-record .result) (k .on-record .last .1 .1 .1 .0) (k .on-record .last .1 .1 .1 .1 .0) (after-it k) (k .on-record .ensures (l .loop .inv .0 .0))
     (c .enum-told .given .1)
 
@@ -122,21 +125,17 @@ loop-again : tie.Need-loop-again Inv-loop μ-loop
 loop-again c =
     let k = c .before .before .before .before .before .before .before .before .before .before .before .before in
     let l = c .before .before .before .before .before .before .before .before .before .before .before .before .before .before .before .before .before .before .before .before .before in
-    let s = c .before .before .before .before .before .before .before .before .before .before .before .before .before .before .before .before .before .before .before .before .before .before .before .before .before .before .before .before .before in
-    let again = goes-on (s .args .variables) (now (s .args .bytes)) _ (l .loop .p) (l .loop .first) (l .loop .work) (now-at l) (l .loop .inv .0)
+    let s = c .before .before .before .before .before .before .before .before .before .before .before .before .before .before .before .before .before .before .before .before .before .before .before .before .before .before .before .before .before .before .before .before .before in
+    let again = goes-on (s .args .variables) (now (s .args .bytes)) _ _ (l .loop .p) (l .loop .first) (l .loop .work) (now-at l) (l .loop .inv .0)
     (c .before .before .before .before .before .before .before .before .before .before .before .before .before .before .before .before .before .before .before .if1 .taken) (k .on-record .result) (k .on-record .last .1 .1 .1 .0) (k .on-record .last .1 .1 .1 .1 .0) (after-it k) (k .on-record .ensures (l .loop .inv .0 .0))
     (c .enum-told .given .1) in
     (again, search needs, search needs, search needs, search needs)
 
 finish-requires : tie.Need-finish-requires Inv-loop μ-loop
 finish-requires c κs =
-    let l = c .before .before .before .before .before .before in
+    let l = c .before .before in
     let s = c .before .before .before .before .before .before .before .before .before .before .before .before .before .before in
-    let h = c .before .before .before .before .if1 .left in (
-      l .loop .inv .0 .0 .fits,
-      ordered-there (s .args .variables) (now (s .args .bytes)) _ (l .loop .p) (l .loop .first) (l .loop .work) (now-at l) (l .loop .inv .0) h,
-      omega (arith, l .loop .inv .0 .0 .counted, l .loop .inv .0 .2, s .good .0),
-    )
+    omega (arith, l .loop .inv .0 .0 .counted, l .loop .inv .0 .2, s .good .0)
 
 same-length-5 : tie.Need-same-length-5 Inv-loop μ-loop
 same-length-5 c = search needs
@@ -152,11 +151,11 @@ same-length-8 c = search needs
 
 returns-2 : tie.Need-returns-2 Inv-loop μ-loop
 returns-2 c =
-    let l = c .before .before .before .before .before .before .before in
+    let l = c .before .before .before in
     let s = c .before .before .before .before .before .before .before .before .before .before .before .before .before .before .before in
-    let h = c .before .before .before .before .before .if1 .left in
+    let h = c .before .if1 .left in
     let r = c .finish in
-    let e = ends-there (s .args .variables) (now (s .args .bytes)) _ (l .loop .p) (l .loop .first) (l .loop .work) (now-at l) (l .loop .inv .0) h (r .result) (r .ensures) in
+    let e = ends-there (s .args .variables) (now (s .args .bytes)) _ _ (l .loop .p) (l .loop .first) (l .loop .work) (now-at l) (l .loop .inv .0) h (r .result) (r .ensures) in
     (e ∙ sym (check-is (now (s .args .bytes)) (s .args .variables) (linesOf (table s))), l .loop .inv .0 .0 .fits)
 
 pub check-derivation-spec : {M : Type 1} → statement M
@@ -171,7 +170,7 @@ check-derivation-spec =
     slice-aggregate-on-record-2
     on-record-requires
     enum-known-objection
-    add-t32
+    add-t40
     same-length
     same-length-2
     same-length-3

@@ -8,7 +8,7 @@ use Rattle.refusal.specs.Outcome.{Outcome, after}
 use Rattle.refusal.specs.declared.Reason.the-variants.{Misplaced}
 use Rattle.table.specs.Rows.{Table}
 use Rattle.derivation.specs.Derivation.{State, onRecord}
-use Rattle.derivation.specs.Held.{progressIn, leftIn, Held}
+use Rattle.derivation.specs.Held.{progressIn, Leaves}
 use Rattle.derivation.specs.declared.Kind.{Kind}
 use Rattle.derivation.specs.declared.Recorded.{Recorded}
 use Rattle.derivation.proofs.Entries.{turned-down}
@@ -39,9 +39,10 @@ of-kind k x e =
     is-kind (s .args .variables) (now (s .args .bytes)) (progress s) x (sym (k .kind-of .ensures) ∙ e)
 
 as-kind : (k : tie.After-kind-of) (x : Kind) → k .kind-of .result ≡ x → (r : Recorded) (gs vs : List ℕ) (u : Table)
-    → (leftIn r gs vs u ≡ after (progress (k .before .before .before .before .before .before .before .before)) (kinds k x)) × Held (r .progress) gs vs u
-    → (leftIn r gs vs u ≡ after (progress (k .before .before .before .before .before .before .before .before)) (records k)) × Held (r .progress) gs vs u
-as-kind k x e r gs vs u d = (d .0 ∙ ap (after (progress (k .before .before .before .before .before .before .before .before))) (sym (of-kind k x e)), d .1)
+    → (let s = k .before .before .before .before .before .before .before .before in
+    let a = s .args in
+    Leaves (kinds k x) (a .p) (now (a .first)) (now (a .work)) (table s) r gs vs u → Leaves (records k) (a .p) (now (a .first)) (now (a .work)) (table s) r gs vs u)
+as-kind k x e r gs vs u d = (d .0 ∙ ap (after (progress (k .before .before .before .before .before .before .before .before))) (sym (of-kind k x e)), d .1, d .2)
 
 shared-slice-read-kind-of : tie.Need-shared-slice-read-kind-of
 shared-slice-read-kind-of c = search needs

@@ -1,4 +1,5 @@
 -- `on_mode` meets its contract: the mode comes once.
+use mathlib.Core.Path.{refl}
 use native.Mathlib.Numerals.{add-one}
 use native.Mathlib.Omega.{arith}
 use mir.Syntax.{w64}
@@ -7,7 +8,7 @@ use borrow.Author.Needs.{needs}
 use Rattle.refusal.specs.declared.Reason.the-variants.{Misplaced}
 use Rattle.derivation.specs.Derivation.{onMode}
 use Rattle.derivation.specs.Held.{progressIn}
-use Rattle.derivation.proofs.Entries.{turned-down}
+use Rattle.derivation.proofs.Entries.{turned-down, held-on}
 use Rattle.derivation.proofs.entry.on_mode.Statement.{statement}
 use Rattle.derivation.proofs.entry.on_mode.Tie as tie
 
@@ -30,14 +31,8 @@ returns-2 c fs us t held =
     let p = c .before .before .before .before .args .p in
     let e = toZ-ofZ {w = w64} {z = p .claim} (record { sfits = search needs }) in (
       rw (e, add-one (p .records), c .before .before .before .if1 .left),
-      record {
-        fits = held .fits;
-        first-area = held .first-area;
-        first-room = held .first-room;
-        area = held .area;
-        room = held .room;
-        counted = omega (arith, held .counted);
-      },
+      held-on p _ fs us t refl refl refl refl (omega (arith, held .counted)) held,
+      omega (arith, held .met),
     )
 
 pub on-mode-spec : {M : Type 1} → statement M
