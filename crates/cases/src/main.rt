@@ -8,7 +8,7 @@ use report::held;
 ghost use Prim.Native.Nat.{_<_};
 
 // How many cases there are.
-const CASES: usize = 244;
+const CASES: usize = 250;
 
 fn print(text: &[u8]) {
     io::write_all(libc::STDOUT_FILENO, text);
