@@ -18,10 +18,10 @@ use Rattle.refusal.specs.Tests.{AllPassed}
 use Rattle.refusal.specs.TestsLaws.{passing-taken}
 use Rattle.run.specs.BooleanLaws.{is-true, of-true, both, cond-ind}
 use Rattle.run.specs.F2.{_⊕_}
-use Rattle.run.specs.Run.{sorted, Sorted}
+use Rattle.run.specs.Run.{sorted}
 use Rattle.run.specs.RunLaws.{normal-id}
 use Rattle.term.specs.Term.{before}
-use Rattle.polynomial.specs.Polynomial.{ZERO, ONE, eval, sumOf, productOf, Ordered, Below}
+use Rattle.polynomial.specs.Polynomial.{ZERO, ONE, eval, sumOf, productOf, Ordered, Below, RunBelow}
 use Rattle.polynomial.specs.PolynomialLaws.{written, eval-sum, eval-product, eval-one, sum-ordered, product-ordered, sum-below, product-below, unique-everywhere, product-plus-one}
 use Rattle.configuration.specs.Weight.{isNegative, share}
 use Rattle.configuration.specs.Configuration.{Line, line, some, same, total, cost, weight, addAll, negated, InOrder, Every, below, isPolynomial, linesFit, weightsFit, isConfiguration, anyNegative}
@@ -215,7 +215,7 @@ plain-stays r f g w L M k e =
 
 -- ---- a step keeps what is asked of every line
 -- lines of at most 64 terms are of polynomials where their terms are ordered and of n variables
-short-fit : (n : ℕ) (C : List Line) → T (allShort C) → Every (λ p. Below n p × Sorted before p) C → Every (λ p. T (isPolynomial n p)) C
+short-fit : (n : ℕ) (C : List Line) → T (allShort C) → Every (RunBelow n) C → Every (λ p. T (isPolynomial n p)) C
 unfolding allShort
 short-fit n [] h c = tt
 short-fit n (line f w ∷ C) h c = (
@@ -236,33 +236,30 @@ changes-every P r f g w hf hg h = every-append P (negated (premises r f g w)) (c
     go Sum = (hf, (hg, tt))
     go Prod = (hf, tt)
 
--- the terms of the lines stay in order
-pub step-ordered : (r : Rule) (d : Mode) (f g : List ℕ) (w : ℤ) (L M : List Line) → Ordered f → Ordered g → Every Ordered L → step r d f g w L ≡ accepted M → Every Ordered M
-step-ordered r d f g w L M hf hg h e = rw (step-taken r d f g w L M e) (all-every Ordered (changes r f g w) L (changes-every Ordered r f g w hf hg (go r)) h)
+-- the conclusions are in order, and of no other variables
+conclusions-run : (r : Rule) (f g : List ℕ) (w : ℤ) (n : ℕ) → Below n f → Below n g → Every (RunBelow n) (conclusions r f g w)
+conclusions-run r f g w n a b = go r
   where
-    go : (r : Rule) → Every Ordered (conclusions r f g w)
-    go Sum = (sum-ordered f g, (product-ordered f g, tt))
-    go Prod = (product-ordered f g, (product-ordered f (sumOf g ONE), tt))
+    g₁ : List ℕ
+    g₁ = sumOf g ONE
+
+    one : Below n ONE
+    one = (pow-pos n, tt)
+
+    go : (r : Rule) → Every (RunBelow n) (conclusions r f g w)
+    go Sum = ((sum-below n f g a b, sum-ordered f g), ((product-below n f g a b, product-ordered f g), tt))
+    go Prod = ((product-below n f g a b, product-ordered f g), ((product-below n f g₁ a (sum-below n g ONE b one), product-ordered f g₁), tt))
+
+-- so are the lines that a step leaves, where those before it are
+pub step-run : (r : Rule) (d : Mode) (f g : List ℕ) (w : ℤ) (n : ℕ) (L M : List Line) → RunBelow n f → RunBelow n g → Every (RunBelow n) L → step r d f g w L ≡ accepted M
+    → Every (RunBelow n) M
+step-run r d f g w n L M hf hg h e =
+    rw (step-taken r d f g w L M e)
+    (all-every (RunBelow n) (changes r f g w) L (changes-every (RunBelow n) r f g w hf hg (conclusions-run r f g w n (hf .0) (hg .0))) h)
 
 module _ (r : Rule) (f g : List ℕ) (w : ℤ) (n : ℕ) (hf : T (isPolynomial n f)) (hg : T (isPolynomial n g)) where
   conclusions-fit : T (allShort (conclusions r f g w)) → Every (λ p. T (isPolynomial n p)) (conclusions r f g w)
-  conclusions-fit h = short-fit n (conclusions r f g w) h (go r)
-    where
-      a : Below n f
-      a = polynomial-below n f hf
-
-      b : Below n g
-      b = polynomial-below n g hg
-
-      g₁ : List ℕ
-      g₁ = sumOf g ONE
-
-      one : Below n ONE
-      one = (pow-pos n, tt)
-
-      go : (r : Rule) → Every (λ p. Below n p × Sorted before p) (conclusions r f g w)
-      go Sum = ((sum-below n f g a b, sum-ordered f g), ((product-below n f g a b, product-ordered f g), tt))
-      go Prod = ((product-below n f g a b, product-ordered f g), ((product-below n f g₁ a (sum-below n g ONE b one), product-ordered f g₁), tt))
+  conclusions-fit h = short-fit n (conclusions r f g w) h (conclusions-run r f g w n (polynomial-below n f hf) (polynomial-below n g hg))
 
   changes-fit : T (allShort (conclusions r f g w)) → Every (λ p. T (isPolynomial n p)) (changes r f g w)
   changes-fit h = changes-every (λ p. T (isPolynomial n p)) r f g w hf hg (conclusions-fit h)

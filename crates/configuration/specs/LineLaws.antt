@@ -4,16 +4,18 @@ use mathlib.Core.Path.{_≡_, refl, sym}
 use mathlib.Core.Bool.{Bool, false, _&&_, true≢false}
 use mathlib.Core.List.{List, [], _∷_, _++_}
 use Prim.Native.Nat.{ℕ, zero, suc, _^_, _≤_}
+use native.Mathlib.Omega.{arith}
 use lib.Dec.{T, leb, leb→le, le→leb, ltb, ltb→lt, lt→ltb}
 use lib.IntN.{ℤ, pos, negsuc, _+ℤ_}
 use lib.ListN.{length, take}
+use lib.Pow.{pow-mono}
 use Rattle.refusal.specs.Outcome.{accepted, unless}
 use Rattle.refusal.specs.OutcomeLaws.{same-accepted, unless-taken}
 use Rattle.run.specs.BooleanLaws.{is-true, of-true, both, left, right}
 use Rattle.run.specs.Run.{sorted, Sorted}
 use Rattle.run.specs.RunLaws.{holds-sorted, sorted-holds}
 use Rattle.term.specs.Term.{before}
-use Rattle.polynomial.specs.Polynomial.{Below}
+use Rattle.polynomial.specs.Polynomial.{Below, RunBelow}
 use Rattle.polynomial.specs.PolynomialLaws.{written}
 use Rattle.configuration.specs.Weight.{isNegative}
 use Rattle.configuration.specs.Configuration.{Line, line, Every, below, isPolynomial, linesFit, weightsFit, isConfiguration}
@@ -46,6 +48,14 @@ polynomial-is n f l b o =
 
 pub none-polynomial : (n : ℕ) → T (isPolynomial n [])
 none-polynomial n = polynomial-is n [] tt tt tt
+
+-- a polynomial of n variables is one of more
+wider : (m n : ℕ) (f : List ℕ) → m ≤ n → Below m f → Below n f
+wider m n [] l b = tt
+wider m n (t ∷ f) l b = (omega (arith, b .0, pow-mono {i = m} {j = n} l), wider m n f l (b .1))
+
+pub polynomial-run : (m n : ℕ) (f : List ℕ) → m ≤ n → T (isPolynomial m f) → RunBelow n f
+polynomial-run m n f l h = (wider m n f l (polynomial-below m f h), polynomial-sorted m f h)
 
 -- ---- signs
 pub sum-sign : (a b : ℤ) → isNegative a ≡ false → isNegative b ≡ false → isNegative (a +ℤ b) ≡ false

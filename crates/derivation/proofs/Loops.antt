@@ -12,14 +12,13 @@ use Rattle.refusal.specs.OutcomeLaws.{after-accepted}
 use Rattle.refusal.specs.declared.Objection.the-variants.{Nothing, Found}
 use Rattle.refusal.specs.Refusal.{numberOf}
 use Rattle.refusal.specs.declared.Reason.{Reason}
-use Rattle.polynomial.specs.Polynomial.{Ordered}
-use Rattle.configuration.specs.Configuration.{Line, Every, isConfiguration}
-use Rattle.configuration.specs.LineLaws.{polynomial-short, polynomial-sorted, configuration-parts}
+use Rattle.configuration.specs.Configuration.{Line, isConfiguration}
+use Rattle.configuration.specs.LineLaws.{polynomial-short, polynomial-sorted, polynomial-run, configuration-parts}
 use Rattle.table.specs.Rows.{withLines, Table, linesOf, Fits, madeIn}
 use Rattle.walk.proofs.Leads.{Leads, begins, ends, inside, next-leads, unmoved, ends-refused}
 use Rattle.derivation.specs.Derivation.{State, onRecord, checking, degreeIn, derivationDegree, Confirmation, toldOfCheck}
 use Rattle.derivation.specs.DerivationLaws.{Sound, sound-fresh, sound-record, walked, madeBy}
-use Rattle.derivation.specs.DegreeLaws.{terms-ordered}
+use Rattle.derivation.specs.DegreeLaws.{lines-run}
 use Rattle.derivation.specs.RefusedLaws.{checking-local}
 use Rattle.derivation.specs.Held.{progressIn, openingOf, Held, Usable, Leaves}
 use Rattle.derivation.specs.declared.CheckAnswer.{CheckAnswer}
@@ -35,9 +34,6 @@ Walks n s D x p fs us t = Held p fs us t × Sound n (progressIn p fs us t .state
     × Leads (checking n) s x (progressIn p fs us t) × Meets n s D (p .degree) (progressIn p fs us t)
 
 -- before the first record
-pub ordered-first : (n : ℕ) (L : List Line) → T (isConfiguration n L) → Every Ordered L
-ordered-first n L c = terms-ordered n L (configuration-parts n L c .fit)
-
 pub starts : (n : ℕ) (s : List ℕ) (k : ℕ) (fs us : List ℕ) (t : Table) → Fits 128 (withLines k t) → T (isConfiguration n (linesOf (withLines k t)))
     → length fs ≡ 64 → length us ≡ 64
     → (let L = linesOf (withLines k t) in Walks n s (derivationDegree s n L) (walked s n L) (openingOf k (degreeIn L)) fs us t)
@@ -52,11 +48,13 @@ starts n s k fs us t fits c l m =
 
 -- what a step asks
 usable : (n : ℕ) (x : State) → Sound n x → Usable x
-usable n x o = (
+usable n x o = let k : _ = configuration-parts n (x .lines) (o .configuration) in (
   (polynomial-short n (x .first) (o .operand), polynomial-sorted n (x .first) (o .operand)),
   (polynomial-short n (x .work) (o .polynomial), polynomial-sorted n (x .work) (o .polynomial)),
-  configuration-parts n (x .lines) (o .configuration) .weights,
-  ordered-first n (x .lines) (o .configuration),
+  k .weights,
+  polynomial-run n 32 (x .first) (k .variables) (o .operand) .0,
+  polynomial-run n 32 (x .work) (k .variables) (o .polynomial) .0,
+  lines-run n (x .lines) (o .configuration),
 )
 
 module _ (n : ℕ) (s : List ℕ) (D : ℕ) (x : Reached (W.Progress State)) (p : Progress) (fs us : List ℕ) (t : Table) (inv : Walks n s D x p fs us t) where

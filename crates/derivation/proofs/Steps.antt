@@ -13,19 +13,18 @@ use Rattle.refusal.specs.declared.Objection.{Objection}
 use Rattle.refusal.specs.declared.Objection.the-variants.{Nothing, Found}
 use Rattle.refusal.specs.Refusal.{numberOf}
 use Rattle.refusal.specs.declared.Reason.{Reason}
-use Rattle.polynomial.specs.Polynomial.{Ordered}
-use Rattle.configuration.specs.Configuration.{Line, Every}
+use Rattle.configuration.specs.Configuration.{Line}
 use Rattle.table.specs.Rows.{withLines, Table, linesOf, Fits}
 use Rattle.table.specs.RowsLaws.{length-lines}
-use Rattle.calculus.specs.CalculusLaws.{step-ordered}
+use Rattle.calculus.specs.CalculusLaws.{step-run}
 use Rattle.calculus.specs.declared.Rule.{Rule}
-use Rattle.step.specs.Stepping.{Operand}
 use Rattle.record.specs.Record.{amountIn}
 use Rattle.record.proofs.Bodies.{amount-cut, amount-whole}
 use Rattle.derivation.specs.Derivation.{State, going, onStep, degreeIn}
-use Rattle.derivation.specs.Held.{progressIn, Held, passed, Leaves}
+use Rattle.derivation.specs.Held.{progressIn, firstDegree, Held, Usable, passed, Leaves}
 use Rattle.derivation.specs.declared.Progress.{Progress}
 use Rattle.derivation.specs.declared.Recorded.{Recorded}
+use Rattle.derivation.proofs.Degrees.{first-degree}
 use Rattle.derivation.proofs.Entries.{refused-as, passes}
 use Rattle.calculus.specs.Calculus as C
 use Rattle.record.specs.declared.Amount.the-variants as A
@@ -82,8 +81,10 @@ module _ (s : List ℕ) (p : Progress) (fs us : List ℕ) (t : Table) (r : Rule)
           abbrev next : Progress
           next = passed p 9 false 0 0 j largest-now
 
-          pub stays-ordered : Operand (take (p .first) fs) → Operand (take (p .work) us) → Every Ordered old → Every Ordered (linesOf (withLines j u))
-          stays-ordered a b h = step-ordered r (p .mode) (take (p .first) fs) (take (p .work) us) w old (linesOf (withLines j u)) (a .1) (b .1) h took
+          pub told-degree : Usable (begun .state) → firstDegree j (u .order) ≡ degreeIn (linesOf (withLines j u))
+          told-degree a =
+              first-degree (withLines j u) fits (step-run r (p .mode) (take (p .first) fs) (take (p .work) us) w 32 old (linesOf (withLines j u))
+              (a .3, a .0 .1) (a .4, a .1 .1) (a .5) took)
 
           step-up : onStep r s begun ≡ accepted (progressIn next fs us u)
           step-up = rw (e, k, amount-whole s (p .at + 1) w a .0, amount-whole s (p .at + 1) w a .1, took, add-one (p .records))

@@ -13,12 +13,12 @@ use Rattle.run.specs.BooleanLaws.{of-true}
 use Rattle.run.specs.Run.{After}
 use Rattle.term.specs.Term.{degreeOf, before}
 use Rattle.term.specs.OrderLaws.{Before, before-cases}
-use Rattle.polynomial.specs.Polynomial.{orderOf, Ordered}
+use Rattle.polynomial.specs.Polynomial.{orderOf, Ordered, RunBelow}
 use Rattle.polynomial.specs.OrderingLaws.{lead}
 use Rattle.polynomial.specs.declared.Ordering.the-variants.{Earlier}
-use Rattle.configuration.specs.Configuration.{Line, line, polynomialOf, Behind, InOrder, Every, isPolynomial, linesFit}
+use Rattle.configuration.specs.Configuration.{Line, line, polynomialOf, Behind, InOrder, Every, isPolynomial, isConfiguration}
 use Rattle.configuration.specs.ConfigurationLaws.{fit-every}
-use Rattle.configuration.specs.LineLaws.{polynomial-sorted, every-map}
+use Rattle.configuration.specs.LineLaws.{polynomial-run, every-map, configuration-parts}
 use Rattle.walk.specs.Walk.{Progress, begun, gathered}
 use Rattle.walk.specs.WalkLaws.{walk-ind}
 use Rattle.derivation.specs.Derivation.{State, fresh, checking, largest, degreeIn, leftAfter, onTheWay, derivationDegree, checkDerivation}
@@ -142,6 +142,8 @@ pub degree-first : (t : ℕ) (f : List ℕ) (w : ℤ) (L : List Line) → InOrde
 unfolding degreeIn largest
 degree-first t f w L h e = omega (arith, head-degree t f (e .0), behind-degree t f L (e .1) (h .1 .1 .0))
 
--- the terms of lines that fit stand in order
-pub terms-ordered : (n : ℕ) (L : List Line) → T (linesFit n L) → Every Ordered L
-terms-ordered n L h = every-map (λ f. T (isPolynomial n f)) Ordered (polynomial-sorted n) L (fit-every n L h)
+-- each line of a configuration has terms of 32 variables, in order
+pub lines-run : (n : ℕ) (L : List Line) → T (isConfiguration n L) → Every (RunBelow 32) L
+lines-run n L c =
+    let k : _ = configuration-parts n L c in
+    every-map (λ f. T (isPolynomial n f)) (RunBelow 32) (λ f. polynomial-run n 32 f (k .variables)) L (fit-every n L (k .fit))

@@ -3,14 +3,14 @@
 use mathlib.Core.Path.{_≡_}
 use mathlib.Core.Bool.{Bool, true, false, cond}
 use mathlib.Core.List.{List}
-use Prim.Native.Nat.{ℕ, _+_, _≤_, max}
+use Prim.Native.Nat.{ℕ, zero, suc, _+_, _/_, _^_, _≤_, max}
 use lib.Dec.{T, eqb}
 use lib.IntN.{ℤ, pos}
-use lib.ListN.{length, take}
+use lib.ListN.{length, getD, take}
 use Rattle.refusal.specs.Outcome.{Outcome, Reached, after, stopOf}
-use Rattle.polynomial.specs.Polynomial.{ZERO, Ordered}
+use Rattle.polynomial.specs.Polynomial.{ZERO, Below, RunBelow}
 use Rattle.configuration.specs.Configuration.{Every, weightsFit}
-use Rattle.table.specs.Rows.{Table, withLines, linesOf, Fits}
+use Rattle.table.specs.Rows.{Table, withLines, keyIn, linesOf, Fits}
 use Rattle.calculus.specs.declared.Rule.the-variants.{Sum, Prod}
 use Rattle.calculus.specs.declared.Mode.the-variants.{Plain, Signed}
 use Rattle.step.specs.Stepping.{Operand}
@@ -104,6 +104,11 @@ closing p w = record {
   degree = p .degree;
 }
 
+-- the degree of a table's lines, as its order tells it: that of the first term of the first line, whose key the first entry has; 0 where there is no line
+abbrev pub firstDegree : ℕ → List ℕ → ℕ
+firstDegree zero is = 0
+firstDegree (suc k) is = keyIn (getD is 0 0) / 2 ^ 32
+
 -- ---- what holds before each record
 pub record Ready (p : Progress) (fs us : List ℕ) (t : Table) : Type 0 where
   pub fits : Fits 128 t
@@ -119,7 +124,7 @@ Held p fs us t = Ready p fs us (withLines (p .lines) t)
 
 -- what a step asks of f, the work polynomial and the lines
 abbrev pub Usable : State → Type 0
-Usable x = Operand (x .first) × Operand (x .work) × T (weightsFit (x .lines)) × Every Ordered (x .lines)
+Usable x = Operand (x .first) × Operand (x .work) × T (weightsFit (x .lines)) × Below 32 (x .first) × Below 32 (x .work) × Every (RunBelow 32) (x .lines)
 
 -- ---- a record that code has read leaves what a definition says of it, and what holds before the next, and the largest degree so far counts the lines that are left. f,
 -- the work polynomial and the table stand in fs, us and t before it, in gs, vs and u after it.

@@ -199,7 +199,7 @@ pub fn on_step(
         return refused(p, reason);
     }
     let left = stepped.lines;
-    let degree = largest_degree(p.degree, left, order, terms, weights, counts);
+    let degree = largest_degree(p.degree, left, order);
     let cleared = Polynomial::ZERO.count;
     accepted(p, 9, false, cleared, cleared, left, degree)
 }

@@ -20,12 +20,11 @@ ghost use Prim.Native.Nat.{_<_};
 ghost use lib.Dec.{T};
 ghost use lib.ListN.{length};
 ghost use Rattle.refusal.specs.Outcome.{nothing, refusedFor};
-ghost use Rattle.polynomial.specs.Polynomial.{Ordered};
-ghost use Rattle.configuration.specs.Configuration.{Every, isConfiguration};
+ghost use Rattle.configuration.specs.Configuration.{isConfiguration};
 ghost use Rattle.table.specs.Rows.{tableAt, tableBefore, tableAfter, linesOf, Fits, madeIn};
 ghost use Rattle.walk.specs.Walk.{verdict};
-ghost use Rattle.derivation.specs.Derivation.{onRecord, degreeIn, checkDerivation, toldOfCheck};
-ghost use Rattle.derivation.specs.Held.{kindOf, progressIn, openingOf, Held, Usable, Does};
+ghost use Rattle.derivation.specs.Derivation.{onRecord, checkDerivation, toldOfCheck};
+ghost use Rattle.derivation.specs.Held.{kindOf, progressIn, openingOf, firstDegree, Held, Usable, Does};
 
 // What a check answers: the claim and the degree, or a refusal with the record that it names and its reason.
 pub enum CheckAnswer {
@@ -130,11 +129,11 @@ fn finish(p: Progress) -> CheckAnswer
 }
 
 // The progress before the first record; the lines at the start count for the degree. It is for `check_derivation`.
-fn opening(lines: usize, order: &[u64], terms: &[u32], weights: &[i64], counts: &[u32]) -> Progress
-    requires { let t = tableAt lines order terms weights counts in ⌜ Fits 128 t × Every Ordered (linesOf t) ⌝ }
-    ensures { λ r. ⌜ r ≡ openingOf lines (degreeIn (linesOf (tableBefore lines order terms weights counts))) ⌝ }
+fn opening(lines: usize, order: &[u64]) -> Progress
+    requires { ⌜ 0 < length (now order) ⌝ }
+    ensures { λ r. ⌜ r ≡ openingOf lines (firstDegree lines (now (order .entry))) ⌝ }
 {
-    let degree = largest_degree(0, lines, order, terms, weights, counts);
+    let degree = largest_degree(0, lines, order);
     Progress {
         at: 0,
         records: 0,
@@ -169,7 +168,7 @@ pub fn check_derivation(
     let zero = Polynomial::ZERO;
     let mut first = zero.terms;
     let mut work = zero.terms;
-    let mut p = opening(lines, order, terms, weights, counts);
+    let mut p = opening(lines, order);
     while p.at < bytes.len() {
         let recorded = on_record(
             bytes,

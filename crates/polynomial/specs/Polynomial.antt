@@ -79,6 +79,10 @@ termsAhead t (u ∷ f) = cond (before u t) (suc (termsAhead t f)) 0
 abbrev pub Below : ℕ → List ℕ → Type 0
 Below n f = All (λ t. t < 2 ^ n) f
 
+-- the same, and they stand in order
+abbrev pub RunBelow : ℕ → List ℕ → Type 0
+RunBelow n f = Below n f × Ordered f
+
 -- ---- the struct: 64 places and a count
 abbrev pub termsOf : Polynomial → List ℕ
 termsOf p = take (p .count) (p .terms)

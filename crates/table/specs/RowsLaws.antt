@@ -3,13 +3,13 @@
 use mathlib.Core.Path.{_≡_, refl, sym, ap, ap₂, subst, _∙_}
 use mathlib.Core.List.{List, [], _∷_, map}
 use Prim.Native.Nat.{ℕ, zero, suc, _+_, _*_, _≤_, _<_}
-use native.Mathlib.Nat.{le-of-suc-le-suc, not-suc-le-zero, add-zero}
+use native.Mathlib.Nat.{le-of-suc-le-suc, not-suc-le-zero}
 use native.Mathlib.Numerals.{add-one}
 use native.Mathlib.Omega.{arith}
 use lib.Dec.{T}
 use lib.IntN.{ℤ, pos}
 use lib.ListN.{length, getD, take, drop, replicate, length-map, length-take, length-replicate, drop-of-length-le}
-use lib.Seq.{getD-take, getD-drop, drop-cons, length-take-le}
+use lib.Seq.{getD-take, drop-cons, length-take-le}
 use Rattle.configuration.specs.Configuration.{Line, line, some, InOrder}
 use Rattle.configuration.specs.LineLaws.{Short}
 use Rattle.table.specs.Rows.{Table, rowOf, termsIn, lineIn, linesAt, linesOf, capacityOf, Each, Misses, Once, Entered, Fits, inTurn}
@@ -97,22 +97,6 @@ module _ {c : ℕ} {t : Table} (q : Fits c t) where
 
     pub row-fits : 64 * r + getD (t .counts) r 0 ≤ length (t .terms)
     row-fits = omega (arith, held-below, entered-at .1, q .terms-length)
-
--- ---- the first line, and its first term
-first-term : (n : ℕ) (l : List ℕ) → T (some (take n l)) → take n l ≡ getD l 0 0 ∷ drop 1 (take n l)
-first-term zero l h = absurd h
-first-term (suc n) [] h = absurd h
-first-term (suc n) (x ∷ l) h = refl
-
-pub first-line : {c : ℕ} {t : Table} → Fits c t → 0 < t .lines
-    → (let r = rowOf (getD (t .order) 0 0) in linesOf t ≡ line (getD (t .terms) (64 * r) 0 ∷ drop 1 (termsIn t r)) (getD (t .weights) r (pos 0)) ∷ drop 1 (linesOf t))
-first-line {c} {t} q h =
-    let r : ℕ = rowOf (getD (t .order) 0 0) in
-    let d : Line = line [] (pos 0) in
-    let e : termsIn t r ≡ getD (t .terms) (64 * r) 0 ∷ drop 1 (termsIn t r) = first-term (getD (t .counts) r 0) (drop (64 * r) (t .terms)) (line-some q 0 h)
-    ∙ ap (λ (x : ℕ). x ∷ drop 1 (termsIn t r)) (getD-drop (64 * r) (t .terms) 0 0 ∙ ap (λ (k : ℕ). getD (t .terms) k 0) (add-zero (64 * r))) in
-    drop-cons (linesOf t) 0 d (omega (arith, length-lines q))
-    ∙ ap (λ (x : Line). x ∷ drop 1 (linesOf t)) (line-at q 0 h d ∙ ap (λ (f : List ℕ). line f (getD (t .weights) r (pos 0))) e)
 
 -- ---- a fresh table: each row has an entry, and none a line
 turn-misses : (r n i : ℕ) → r < i → i + n ≤ 128 → Misses r (inTurn n i)

@@ -6,8 +6,8 @@ ghost use lib.ListN.{length, getD, take, drop};
 ghost use lib.Seq.{slice};
 ghost use Rattle.table.specs.Rows.{rowOf, keyIn, ahead as leading, Falling, inTurn};
 
-// The row of the line at a place. It is for this crate, for `replacement`, and for `memory`, `listing` and `derivation`, which read
-// lines one by one.
+// The row of the line at a place. It is for this crate, for `replacement`, and for `memory` and `listing`, which read lines one by
+// one.
 pub fn row_at(order: &[u64], at: usize) -> usize
     requires { ⌜ at < length (now order) ⌝ }
     ensures { λ r. ⌜ r ≡ rowOf (getD (now (order .entry)) at 0) ⌝ }
@@ -16,7 +16,7 @@ pub fn row_at(order: &[u64], at: usize) -> usize
     (entry % 128) as usize
 }
 
-// The key of the first term of the line at a place. It is for the crate `replacement`.
+// The key of the first term of the line at a place. It is for the crates `replacement` and `derivation`.
 pub fn key_at(order: &[u64], at: usize) -> u64
     requires { ⌜ at < length (now order) ⌝ }
     ensures { λ r. ⌜ r ≡ keyIn (getD (now (order .entry)) at 0) ⌝ }

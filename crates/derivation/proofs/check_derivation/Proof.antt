@@ -9,7 +9,9 @@ use borrow.Author.Needs.{needs}
 use Rattle.table.specs.Rows.{Table, linesOf}
 use Rattle.derivation.specs.Derivation.{derivationDegree}
 use Rattle.derivation.specs.DerivationLaws.{walked, check-is}
-use Rattle.derivation.proofs.Loops.{Walks, ordered-first, starts, asks, goes-on, fewer, refused-count, refused-there, ends-there}
+use Rattle.derivation.specs.DegreeLaws.{lines-run}
+use Rattle.derivation.proofs.Degrees.{first-degree}
+use Rattle.derivation.proofs.Loops.{Walks, starts, asks, goes-on, fewer, refused-count, refused-there, ends-there}
 use Rattle.derivation.proofs.check_derivation.Statement.{statement}
 use Rattle.derivation.proofs.check_derivation.Tie as tie
 
@@ -43,16 +45,15 @@ after-it k =
     }
 
 opening-requires : tie.Need-opening-requires Inv-loop μ-loop
-opening-requires c κs =
-    let s = c .before .before .before .before .before .before .before .before .before .before in
-    (s .pre .0, ordered-first (s .args .variables) (linesOf (table s)) (s .pre .1))
+opening-requires c κs = let q = c .before .before .before .before .before .before .before .pre .0 in omega (arith, q .order-length)
 
 loop-holds : tie.Need-loop-holds Inv-loop μ-loop
 loop-holds c =
-    let s = c .before .before .before .before .before .before .before .before .before .before .before in
+    let s = c .before .before .before .before .before .before .before .before in
     let a = s .args in
     let zeros : List ℕ = replicate 64 0 in
-    rw (c .opening .ensures) (
+    let d = first-degree (table s) (s .pre .0) (lines-run (a .variables) (linesOf (table s)) (s .pre .1)) in
+    rw (c .opening .ensures, d) (
       starts (a .variables) (now (a .bytes)) (a .lines) zeros zeros (table s) (s .pre .0) (s .pre .1) refl refl,
       refl,
       refl,
@@ -68,18 +69,18 @@ slice-aggregate-on-record-2 c = sym (c .before .before .before .before .loop .in
 
 on-record-requires : tie.Need-on-record-requires Inv-loop μ-loop
 on-record-requires c κs =
-    let s = c .before .before .before .before .before .before .before .before .before .before .before .before .before .before .before .before .before .before .before .before in
+    let s = c .before .before .before .before .before .before .before .before .before .before .before .before .before .before .before .before .before in
     let l = c .before .before .before .before .before .before .before .before in
     asks (s .args .variables) (now (s .args .bytes)) _ _ (l .loop .p) (l .loop .first) (l .loop .work) (now-at l) (l .loop .inv .0) (c .before .before .before .before .before .before .if1 .taken)
 
 enum-known-objection : tie.Need-enum-known-objection Inv-loop μ-loop
 enum-known-objection c = search needs
 
-add-t40 : tie.Need-add-t40 Inv-loop μ-loop
-add-t40 c =
+add-t34 : tie.Need-add-t34 Inv-loop μ-loop
+add-t34 c =
     let k = c .before .before .before .before .before .before .before .before .before .before .before .before .before .before in
     let l = c .before .before .before .before .before .before .before .before .before .before .before .before .before .before .before .before .before .before .before .before .before .before .before in
-    let s = c .before .before .before .before .before .before .before .before .before .before .before .before .before .before .before .before .before .before .before .before .before .before .before .before .before .before .before .before .before .before .before .before .before .before .before in
+    let s = c .before .before .before .before .before .before .before .before .before .before .before .before .before .before .before .before .before .before .before .before .before .before .before .before .before .before .before .before .before .before .before .before in
     let d = c .before .before .objection in
     let h = refused-count (s .args .variables) (now (s .args .bytes)) _ _ (l .loop .p) (l .loop .first) (l .loop .work) (now-at l) (l .loop .inv .0)
     (c .before .before .before .before .before .before .before .before .before .before .before .before .before .before .before .before .before .before .before .before .before .if1 .taken) (k .on-record .result) (k .on-record .last .1 .1 .1 .0) (k .on-record .last .1 .1 .1 .1 .0) (after-it k) (k .on-record .ensures (l .loop .inv .0 .0))
@@ -102,7 +103,7 @@ returns : tie.Need-returns Inv-loop μ-loop
 returns c =
     let k = c .before .before .before .before .before .before .before .before .before .before .before .before .before .before in
     let l = c .before .before .before .before .before .before .before .before .before .before .before .before .before .before .before .before .before .before .before .before .before .before .before in
-    let s = c .before .before .before .before .before .before .before .before .before .before .before .before .before .before .before .before .before .before .before .before .before .before .before .before .before .before .before .before .before .before .before .before .before .before .before in
+    let s = c .before .before .before .before .before .before .before .before .before .before .before .before .before .before .before .before .before .before .before .before .before .before .before .before .before .before .before .before .before .before .before .before in
     let d = c .before .before .objection in
     let e = refused-there (s .args .variables) (now (s .args .bytes)) _ _ (l .loop .p) (l .loop .first) (l .loop .work) (now-at l) (l .loop .inv .0)
     (c .before .before .before .before .before .before .before .before .before .before .before .before .before .before .before .before .before .before .before .before .before .if1 .taken) (k .on-record .result) (k .on-record .last .1 .1 .1 .0) (k .on-record .last .1 .1 .1 .1 .0) (after-it k) (k .on-record .ensures (l .loop .inv .0 .0))
@@ -116,7 +117,7 @@ loop-less : tie.Need-loop-less Inv-loop μ-loop
 loop-less c =
     let k = c .before .before .before .before .before .before .before .before .before .before .before .before in
     let l = c .before .before .before .before .before .before .before .before .before .before .before .before .before .before .before .before .before .before .before .before .before in
-    let s = c .before .before .before .before .before .before .before .before .before .before .before .before .before .before .before .before .before .before .before .before .before .before .before .before .before .before .before .before .before .before .before .before .before in
+    let s = c .before .before .before .before .before .before .before .before .before .before .before .before .before .before .before .before .before .before .before .before .before .before .before .before .before .before .before .before .before .before in
     fewer (s .args .variables) (now (s .args .bytes)) _ _ (l .loop .p) (l .loop .first) (l .loop .work) (now-at l) (l .loop .inv .0)
     (c .before .before .before .before .before .before .before .before .before .before .before .before .before .before .before .before .before .before .before .if1 .taken) (k .on-record .result) (k .on-record .last .1 .1 .1 .0) (k .on-record .last .1 .1 .1 .1 .0) (after-it k) (k .on-record .ensures (l .loop .inv .0 .0))
     (c .enum-told .given .1)
@@ -125,7 +126,7 @@ loop-again : tie.Need-loop-again Inv-loop μ-loop
 loop-again c =
     let k = c .before .before .before .before .before .before .before .before .before .before .before .before in
     let l = c .before .before .before .before .before .before .before .before .before .before .before .before .before .before .before .before .before .before .before .before .before in
-    let s = c .before .before .before .before .before .before .before .before .before .before .before .before .before .before .before .before .before .before .before .before .before .before .before .before .before .before .before .before .before .before .before .before .before in
+    let s = c .before .before .before .before .before .before .before .before .before .before .before .before .before .before .before .before .before .before .before .before .before .before .before .before .before .before .before .before .before .before in
     let again = goes-on (s .args .variables) (now (s .args .bytes)) _ _ (l .loop .p) (l .loop .first) (l .loop .work) (now-at l) (l .loop .inv .0)
     (c .before .before .before .before .before .before .before .before .before .before .before .before .before .before .before .before .before .before .before .if1 .taken) (k .on-record .result) (k .on-record .last .1 .1 .1 .0) (k .on-record .last .1 .1 .1 .1 .0) (after-it k) (k .on-record .ensures (l .loop .inv .0 .0))
     (c .enum-told .given .1) in
@@ -134,7 +135,7 @@ loop-again c =
 finish-requires : tie.Need-finish-requires Inv-loop μ-loop
 finish-requires c κs =
     let l = c .before .before in
-    let s = c .before .before .before .before .before .before .before .before .before .before .before .before .before .before in
+    let s = c .before .before .before .before .before .before .before .before .before .before .before in
     omega (arith, l .loop .inv .0 .0 .counted, l .loop .inv .0 .2, s .good .0)
 
 same-length-5 : tie.Need-same-length-5 Inv-loop μ-loop
@@ -152,7 +153,7 @@ same-length-8 c = search needs
 returns-2 : tie.Need-returns-2 Inv-loop μ-loop
 returns-2 c =
     let l = c .before .before .before in
-    let s = c .before .before .before .before .before .before .before .before .before .before .before .before .before .before .before in
+    let s = c .before .before .before .before .before .before .before .before .before .before .before .before in
     let h = c .before .if1 .left in
     let r = c .finish in
     let e = ends-there (s .args .variables) (now (s .args .bytes)) _ _ (l .loop .p) (l .loop .first) (l .loop .work) (now-at l) (l .loop .inv .0) h (r .result) (r .ensures) in
@@ -170,7 +171,7 @@ check-derivation-spec =
     slice-aggregate-on-record-2
     on-record-requires
     enum-known-objection
-    add-t40
+    add-t34
     same-length
     same-length-2
     same-length-3

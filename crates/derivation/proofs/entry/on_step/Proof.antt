@@ -1,8 +1,8 @@
 -- `on_step` meets its contract: the place, the body and the calculus' own step answer for the record.
-use mathlib.Core.Path.{_≡_, sym, subst, _∙_}
+use mathlib.Core.Path.{_≡_, sym, ap, subst, _∙_}
 use mathlib.Core.Bool.{true, false, not, _&&_}
 use mathlib.Core.List.{List}
-use Prim.Native.Nat.{ℕ, _+_, _≤_}
+use Prim.Native.Nat.{ℕ, _+_, _≤_, max}
 use native.Mathlib.Omega.{arith}
 use lib.Dec.{leb→le}
 use lib.IntN.{ℤ}
@@ -25,7 +25,7 @@ use Rattle.record.proofs.Bodies.{amount-whole}
 use Rattle.derivation.specs.Derivation.{onStep}
 use Rattle.derivation.specs.Held.{progressIn, passed}
 use Rattle.derivation.proofs.Entries.{turned-down}
-use Rattle.derivation.proofs.Steps.{step-misplaced, step-unset, step-cut, step-refused, stays-ordered, step-accepted}
+use Rattle.derivation.proofs.Steps.{step-misplaced, step-unset, step-cut, step-refused, told-degree, step-accepted}
 use Rattle.derivation.proofs.entry.on_step.Statement.{statement}
 use Rattle.calculus.specs.Calculus as C
 use Rattle.derivation.proofs.entry.on_step.Tie as tie
@@ -183,22 +183,12 @@ returns-4 c held =
 enum-told-2 : tie.Need-enum-told-2
 enum-told-2 c = search needs
 
--- what the step leaves is in order, and counts for the degree
 largest-degree-requires : tie.Need-largest-degree-requires
-largest-degree-requires c κs =
-    let t = c .before .before .before .before .before .before .before .before .before .before .before .before .before in
-    let k = read-at t in
-    let s = start k in
-    let a = s .args in
-    let u = s .pre .2 in (
-      t .step .ensures .1,
-      stays-ordered (bytes s) (a .p) (now (a .first)) (now (a .work)) (table s) (a .rule) (going-on k) (is-set k) (amount t) (read t) (s .pre .1)
-          (t .step .result .lines) (last t) (t .step .ensures .1) (t .step .result .objection) (told t) (c .before .before .before .before .enum-told2 .given .1) (u .0) (u .1) (u .3),
-    )
+largest-degree-requires c κs = let q = c .before .before .before .before .before .before .before .before .before .before .step .ensures .1 in omega (arith, q .order-length)
 
 accepted-requires : tie.Need-accepted-requires
 accepted-requires c κs =
-    let t = c .before .before .before .before .before .before .before .before .before .before .before .before .before .before in
+    let t = c .before .before .before .before .before .before .before .before .before .before .before in
     let s = came t in
     let p = s .args .p in
     let h : p .at + 1 + 8 ≤ length (bytes s) =
@@ -220,15 +210,18 @@ same-length-8 c = search needs
 
 returns-5 : tie.Need-returns-5
 returns-5 c held =
-    let t = c .before .before .before .before .before .before .before .before .before .before .before .before .before .before .before in
+    let t = c .before .before .before .before .before .before .before .before .before .before .before .before in
     let k = read-at t in
     let s = start k in
     let a = s .args in
     let j = t .step .result .lines in
-    let e = subst (λ (d : ℕ). c .accepted .result ≡ record { progress = passed (a .p) 9 false 0 0 j d; objection = Nothing }) (c .before .largest-degree .ensures) (c .accepted .ensures) in
+    let o = c .before .before .before .enum-told2 .given .1 in
+    let told-degree-now = told-degree (bytes s) (a .p) (now (a .first)) (now (a .work)) (table s) (a .rule) (going-on k) (is-set k) (amount t) (read t) held
+    j (last t) (t .step .ensures .1) (t .step .result .objection) (told t) o (s .pre .2) in
+    let d = c .before .largest-degree .ensures ∙ ap (max (a .p .degree)) told-degree-now in
     step-accepted (bytes s) (a .p) (now (a .first)) (now (a .work)) (table s) (a .rule) (going-on k) (is-set k) (amount t) (read t) held
-    j (last t) (t .step .ensures .1) (t .step .result .objection) (told t) (c .before .before .before .before .before .before .enum-told2 .given .1)
-    (c .accepted .result) e
+    j (last t) (t .step .ensures .1) (t .step .result .objection) (told t) o (c .accepted .result)
+    (subst (λ (d : ℕ). c .accepted .result ≡ record { progress = passed (a .p) 9 false 0 0 j d; objection = Nothing }) d (c .accepted .ensures))
 
 pub on-step-spec : {M : Type 1} → statement M
 on-step-spec =
