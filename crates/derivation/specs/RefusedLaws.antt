@@ -1,4 +1,5 @@
--- A refused check: it names the record after the accepted ones, and leaves what these make. The first accepted records, alone, are accepted again.
+-- A refused check: it names the record after the accepted ones, and leaves what these make. The first accepted records, alone, are accepted again; so is a record with any
+-- bytes behind it.
 use mathlib.Core.Path.{_≡_, refl, sym, ap, ap₂, subst, _∙_}
 use mathlib.Core.Bool.{Bool, true, false, cond, not, _&&_}
 use mathlib.Core.List.{List, _++_}
