@@ -3,7 +3,7 @@
 use mathlib.Core.Path.{_≡_, refl, sym, ap, ap₂, _∙_}
 use mathlib.Core.Logic.{_⊎_, inl, inr}
 use mathlib.Core.Bool.{Bool, true, false, not, _&&_, _||_, cond, true≢false}
-use mathlib.Core.List.{List, [], _∷_}
+use mathlib.Core.List.{List, [], _∷_, append-nil}
 use Prim.Native.Nat.{ℕ, zero, suc, _≤_}
 use native.Mathlib.Omega.{arith}
 use lib.Dec.{T, leb, leb→le, le→leb, ltb, ltb→lt}
@@ -21,7 +21,7 @@ use Rattle.run.specs.F2.{_⊕_}
 use Rattle.run.specs.Run.{sorted}
 use Rattle.run.specs.RunLaws.{normal-id}
 use Rattle.term.specs.Term.{before}
-use Rattle.polynomial.specs.Polynomial.{ZERO, ONE, eval, sumOf, productOf, Ordered, Below, RunBelow}
+use Rattle.polynomial.specs.Polynomial.{ZERO, ONE, eval, normal, sumOf, productOf, Ordered, Below, RunBelow}
 use Rattle.polynomial.specs.PolynomialLaws.{written, eval-sum, eval-product, eval-one, sum-ordered, product-ordered, sum-below, product-below, unique-everywhere, product-plus-one}
 use Rattle.configuration.specs.Weight.{isNegative, share}
 use Rattle.configuration.specs.Configuration.{Line, line, some, same, total, cost, weight, addAll, negated, InOrder, Every, below, isPolynomial, linesFit, weightsFit, isConfiguration, anyNegative}
@@ -67,7 +67,7 @@ stepped-cost r f g w L α = cost-all (changes r f g w) L α ∙ rw (changes-cost
 
 -- ---- where f g or f (g + 1) is 0 the other is f, and PROD changes nothing; f has any length
 rest-whole : (f g : List ℕ) → Ordered f → productOf f g ≡ ZERO → productOf f (sumOf g ONE) ≡ f
-rest-whole f g s e = product-plus-one f g ∙ ap (λ (p : List ℕ). sumOf p f) e ∙ normal-id before written f s
+rest-whole f g s e = product-plus-one f g ∙ ap (sumOf f) e ∙ ap normal (append-nil f) ∙ normal-id before written f s
 
 product-whole : (f g : List ℕ) → Ordered f → productOf f (sumOf g ONE) ≡ ZERO → productOf f g ≡ f
 unfolding eval

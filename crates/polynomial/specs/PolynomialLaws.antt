@@ -135,15 +135,15 @@ unique-everywhere f g s r h = unique-within (λ t. Unit {0}) f g s r (any f) (an
     any [] = tt
     any (t ∷ l) = (tt, any l)
 
--- f (g + 1) is f g + f
-pub product-plus-one : (f g : List ℕ) → productOf f (sumOf g ONE) ≡ sumOf (productOf f g) f
-product-plus-one f g = unique-everywhere (productOf f g₁) (sumOf (productOf f g) f) (product-ordered f g₁) (sum-ordered (productOf f g) f)
-    (λ α. eval-product f g₁ α ∙ rw (eval-sum g ONE α, eval-one α, eval-sum (productOf f g) f α, eval-product f g α) (at (eval f α) (eval g α)))
+-- f (g + 1) is f + f g: what `Polynomial::plus_product` makes of f, f and g
+pub product-plus-one : (f g : List ℕ) → productOf f (sumOf g ONE) ≡ sumOf f (productOf f g)
+product-plus-one f g = unique-everywhere (productOf f g₁) (sumOf f (productOf f g)) (product-ordered f g₁) (sum-ordered f (productOf f g))
+    (λ α. eval-product f g₁ α ∙ rw (eval-sum g ONE α, eval-one α, eval-sum f (productOf f g) α, eval-product f g α) (at (eval f α) (eval g α)))
   where
     g₁ : List ℕ
     g₁ = sumOf g ONE
 
-    at : (x y : Bool) → (x && (y ⊕ true)) ≡ (x && y) ⊕ x
+    at : (x y : Bool) → (x && (y ⊕ true)) ≡ x ⊕ (x && y)
     at true true = refl
     at true false = refl
     at false y = refl
@@ -164,23 +164,28 @@ placed-short l area h = rw (le-leb (length l) 64 h)
 pub placed-long : (l area : List ℕ) → 64 < length l → placed l area ≡ area
 placed-long l area h = rw (lt-leb (length l) 64 h)
 
--- ---- what is answered of a sum or a product l of two runs: the first of them that is too long, or l
-module _ (f g l : List ℕ) where
-  pub first-long : 64 < length f → firstLong f g l ≡ f
-  first-long h = rw (lt-leb (length f) 64 h)
+-- ---- what is answered of a result l of some runs
+-- each of some runs has at most 64 terms
+abbrev pub AllShort : List (List ℕ) → Type 0
+AllShort [] = Unit {0}
+AllShort (f ∷ fs) = (length f ≤ 64) × AllShort fs
 
-  pub second-long : length f ≤ 64 → 64 < length g → firstLong f g l ≡ g
-  second-long h k = rw (le-leb (length f) 64 h, lt-leb (length g) 64 k)
+-- the first that is too long
+pub first-long : (fs : List (List ℕ)) (g : List ℕ) (gs : List (List ℕ)) (l : List ℕ) → AllShort fs → 64 < length g → firstLong (fs ++ g ∷ gs) l ≡ g
+first-long [] g gs l a h = rw (lt-leb (length g) 64 h)
+first-long (f ∷ fs) g gs l a h = rw (le-leb (length f) 64 (a .0)) (first-long fs g gs l (a .1) h)
 
-  pub none-long : length f ≤ 64 → length g ≤ 64 → firstLong f g l ≡ l
-  none-long h k = rw (le-leb (length f) 64 h, le-leb (length g) 64 k)
+-- l where none is
+pub none-long : (fs : List (List ℕ)) (l : List ℕ) → AllShort fs → firstLong fs l ≡ l
+none-long [] l a = refl
+none-long (f ∷ fs) l a = rw (le-leb (length f) 64 (a .0)) (none-long fs l (a .1))
 
-  -- of two polynomials: how many terms l has, and where they are at most 64 these terms, in front of an area
-  pub exact : (area out : List ℕ) (r : ℕ) → length f ≤ 64 → length g ≤ 64
-      → (r ≡ length (firstLong f g l)) × (out ≡ placed (firstLong f g l) area) → (r ≡ length l) × (r ≤ 64 → take r out ≡ l)
-  exact area out r h k told =
-      let e = none-long h k in
-      let size : r ≡ length l = told .0 ∙ ap length e in (
-        size,
-        λ short. ap (take r) (told .1 ∙ ap (λ (x : List ℕ). placed x area) e ∙ placed-short l area (omega arith)) ∙ take-at l (drop (length l) area) r (sym size),
-      )
+-- then the answer is how many terms l has, and where they are at most 64 these terms stand in front of an area
+pub exact : (fs : List (List ℕ)) (l area out : List ℕ) (r : ℕ) → AllShort fs → (r ≡ length (firstLong fs l)) × (out ≡ placed (firstLong fs l) area)
+    → (r ≡ length l) × (r ≤ 64 → take r out ≡ l)
+exact fs l area out r a told =
+    let e = none-long fs l a in
+    let size : r ≡ length l = told .0 ∙ ap length e in (
+      size,
+      λ short. ap (take r) (told .1 ∙ ap (λ (x : List ℕ). placed x area) e ∙ placed-short l area (omega arith)) ∙ take-at l (drop (length l) area) r (sym size),
+    )

@@ -62,7 +62,8 @@ fn long_product(f: &[u32], g: &[u32], out: &mut [u32]) -> usize
 
 // Writes f g to the front of an area of 64, where it fits. Answers how many terms it has. Few products of terms are added one by one.
 // A long product has the shorter run first, so that its inner loops are long. It is called at two places, which also keeps it a
-// function of its own: the areas that it needs are then not laid out for a short product. It is for `Polynomial::product`.
+// function of its own: the areas that it needs are then not laid out for a short product. It is for `Polynomial::product` and
+// `Polynomial::plus_product`.
 pub fn write_product(f: &[u32], g: &[u32], out: &mut [u32]) -> usize
     requires { ⌜ (length (now f) ≤ 64) × (length (now g) ≤ 64) × (length (now out) ≡ 64) ⌝ }
     ensures size { λ r. ⌜ r ≡ length (productOf (now (f .entry)) (now (g .entry))) ⌝ }

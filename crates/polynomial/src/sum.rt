@@ -9,7 +9,8 @@ ghost use lib.ListN.{length};
 ghost use Rattle.polynomial.specs.Polynomial.{sumOf, placed};
 
 // Writes f + g to the front of an area of 64, where it fits. Answers how many terms it has. Few terms are added one by one; else each
-// run is put in order, which costs one pass where it is so already, and then one merge is made. It is for `Polynomial::sum`.
+// run is put in order, which costs one pass where it is so already, and then one merge is made. It is for `Polynomial::sum` and
+// `Polynomial::plus_product`.
 pub fn write_sum(f: &[u32], g: &[u32], out: &mut [u32]) -> usize
     requires { ⌜ (length (now f) ≤ 64) × (length (now g) ≤ 64) × (length (now out) ≡ 64) ⌝ }
     ensures size { λ r. ⌜ r ≡ length (sumOf (now (f .entry)) (now (g .entry))) ⌝ }

@@ -42,9 +42,9 @@ module _ (r : ℕ) (l : List ℕ) (e : r ≡ length l) where
 pub room : (l area : List ℕ) (r : ℕ) → (r ≡ length l) × (r ≤ 64 → take r area ≡ l) → r ≤ 64 → r ≤ length area
 room l area r told h = omega (arith, told .0, ap length (told .1 h), length-take r area)
 
--- f g + f, worked out from f g, is f (g + 1)
-pub plus-one : (f g p : List ℕ) → p ≡ productOf f g → sumOf p f ≡ productOf f (sumOf g ONE)
-plus-one f g p h = ap (λ (x : List ℕ). sumOf x f) h ∙ sym (product-plus-one f g)
+-- f + f g, worked out from f g, is f (g + 1)
+pub plus-one : (f g p : List ℕ) → p ≡ productOf f g → sumOf f p ≡ productOf f (sumOf g ONE)
+plus-one f g p h = ap (sumOf f) h ∙ sym (product-plus-one f g)
 
 -- ---- changes folded one by one
 -- a table of four has the changes C, none of them large

@@ -56,7 +56,7 @@ fn plan_sum(
     Plan { fits: true, lines }
 }
 
-// PROD: f loses the amount, f g gains it, f (g + 1) gains it. The last is f g + f, since g + 1 may have 65 terms.
+// PROD: f loses the amount, f g gains it, f (g + 1) gains it. The last is f + f g, since g + 1 may have 65 terms.
 fn plan_prod(
     f: &[u32],
     g: &[u32],
@@ -79,7 +79,7 @@ fn plan_prod(
     }
     let p = &product[..n];
     let mut rest = [0u32; 64];
-    let m = Polynomial::sum(p, f, &mut rest);
+    let m = Polynomial::sum(f, p, &mut rest);
     if 64 < m {
         return Plan {
             fits: false,

@@ -1,17 +1,13 @@
 -- `write_product` meets its contract: g f is f g.
-use mathlib.Core.Path.{sym, ap, _∙_}
-use mathlib.Core.List.{List}
-use Prim.Native.Nat.{ℕ, _≤_}
+use mathlib.Core.Path.{sym}
+use Prim.Native.Nat.{_≤_}
 use native.Mathlib.Omega.{arith}
 use lib.ListN.{length}
 use lib.Seq.{length-take-le}
 use borrow.Author.Needs.{needs}
-use Rattle.mask.specs.Mask.{unions}
-use Rattle.mask.specs.MaskLaws.{length-unions}
-use Rattle.polynomial.specs.Polynomial.{placed}
+use Rattle.polynomial.specs.LengthLaws.{product-length}
 use Rattle.polynomial.specs.PolynomialLaws.{product-turned}
-use Rattle.polynomial.specs.ToggleLaws.{normal-short}
-use Rattle.polynomial.proofs.Keys.{most-products, run-written}
+use Rattle.polynomial.proofs.Keys.{most-products, run-written, answered-same}
 use Rattle.polynomial.proofs.product.write_product.Statement.{statement}
 use Rattle.polynomial.proofs.product.write_product.Tie as tie
 
@@ -30,7 +26,7 @@ short-product-requires c κs = search needs
 few : (c : tie.After-short-product) → c .short-product .result ≤ 16
 few c =
     let a = c .before .before .before .before .before .before .args in
-    omega (arith, c .short-product .ensures .0, normal-short (unions (a .f .now) (a .g .now)), length-unions (a .f .now) (a .g .now))
+    omega (arith, c .short-product .ensures .0, product-length (a .f .now) (a .g .now))
 
 array-share-prefix-terms : tie.Need-array-share-prefix-terms
 array-share-prefix-terms c = omega (arith, few (c .before .before), c .before .before .short-product .kept .1 .1 .0)
@@ -61,9 +57,7 @@ returns-2 c =
     let s = c .before .before .before .before .before .before .before .before .before in
     let f = s .args .f .now in
     let g = s .args .g .now in
-    let e = product-turned f g in
-    let p = c .before .before .long-product in
-    (p .ensures .0 ∙ ap length e, p .ensures .1 ∙ ap (λ (l : List ℕ). placed l (s .args .out .now)) e)
+    answered-same _ _ (s .args .out .now) _ _ (product-turned f g) (c .before .before .long-product .ensures)
 
 long-product-requires-2 : tie.Need-long-product-requires-2
 long-product-requires-2 c κs = search needs

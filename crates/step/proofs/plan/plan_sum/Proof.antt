@@ -1,7 +1,7 @@
 -- `plan_sum` meets its contract: a result of more than 64 terms does not fit, and otherwise the table has the four changes of the rule, one after another.
 use mathlib.Core.Path.{_≡_, refl, sym, _∙_}
 use mathlib.Core.Bool.{true, false}
-use mathlib.Core.List.{List}
+use mathlib.Core.List.{List, [], _∷_}
 use Prim.Native.Nat.{ℕ, _≤_}
 use native.Mathlib.Omega.{arith}
 use lib.IntN.{ℤ, pos, _+ℤ_, _-ℤ_, negℤ}
@@ -65,14 +65,14 @@ told-sum : (c : tie.After-sum2)
     (k .result ≡ length (sumOf (left s) (right s))) × (k .result ≤ 64 → take (k .result) (k .last .1 .1 .0) ≡ sumOf (left s) (right s)))
 told-sum c =
     let s = c .before .before .before .before .before .before .before in
-    exact (left s) (right s) (sumOf (left s) (right s)) _ _ _ (s .pre .0 .0) (s .pre .1 .0) (c .sum2 .ensures)
+    exact (left s ∷ right s ∷ []) (sumOf (left s) (right s)) _ _ _ (s .pre .0 .0, (s .pre .1 .0, tt)) (c .sum2 .ensures)
 
 told-product : (c : tie.After-product2)
     → (let s = c .before .before .before .before .before .before .before .before .before .before in let k = c .product2 in
     (k .result ≡ length (productOf (left s) (right s))) × (k .result ≤ 64 → take (k .result) (k .last .1 .1 .0) ≡ productOf (left s) (right s)))
 told-product c =
     let s = c .before .before .before .before .before .before .before .before .before .before in
-    exact (left s) (right s) (productOf (left s) (right s)) _ _ _ (s .pre .0 .0) (s .pre .1 .0) (c .product2 .ensures)
+    exact (left s ∷ right s ∷ []) (productOf (left s) (right s)) _ _ _ (s .pre .0 .0, (s .pre .1 .0, tt)) (c .product2 .ensures)
 
 -- ---- where both results are short enough
 abbrev begun : tie.Else2 → tie.Start
