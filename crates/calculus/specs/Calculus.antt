@@ -2,30 +2,29 @@
 use mathlib.Core.Bool.{Bool, true, false, cond, not, _&&_, _||_}
 use mathlib.Core.List.{List, [], _∷_, _++_}
 use Prim.Native.Nat.{ℕ}
-use lib.Dec.{leb}
 use lib.IntN.{ℤ, pos, _+ℤ_}
 use lib.Signed.{leZ}
-use lib.ListN.{length}
-use Rattle.refusal.specs.Outcome.{Outcome, unless, Test, test, passing}
+use Rattle.refusal.specs.Outcome.{Outcome, Test, test, passing}
 use Rattle.run.specs.Run.{sorted}
 use Rattle.term.specs.Term.{before}
 use Rattle.polynomial.specs.Polynomial.{ONE, sumOf, productOf}
 use Rattle.configuration.specs.Weight.{limit, inRange, isZero}
 use Rattle.configuration.specs.Configuration.{Line, line, some, weight, addAll, negated, below, anyNegative}
-use Rattle.configuration.specs.Limits.{within}
+use Rattle.configuration.specs.Limits.{short, within}
 use Rattle.calculus.specs.declared.Rule.{Rule}
 use Rattle.calculus.specs.declared.Rule.the-variants.{Sum, Prod}
 use Rattle.calculus.specs.declared.Mode.{Mode}
 use Rattle.calculus.specs.declared.Mode.the-variants.{Plain, Signed}
 
 -- ---- the rules: what a rule with its operands takes away, and what it gives
--- SUM: "f and g lose w each, f + g gains w, fg gains 2w". PROD: "f loses w, fg gains w, f(g + 1) gains w".
+-- SUM: "f and g lose w each, f + g gains w, fg gains 2w". PROD: "f loses w, fg gains w, f(g + 1) gains w". What is given stands in the order of document 02, Ask 6:
+-- "Where several results of a step are too long, fg is told first, then f + g or f(g + 1)."
 abbrev pub premises : Rule → List ℕ → List ℕ → ℤ → List Line
 premises Sum f g w = line f w ∷ line g w ∷ []
 premises Prod f g w = line f w ∷ []
 
 abbrev pub conclusions : Rule → List ℕ → List ℕ → ℤ → List Line
-conclusions Sum f g w = line (sumOf f g) w ∷ line (productOf f g) (w +ℤ w) ∷ []
+conclusions Sum f g w = line (productOf f g) (w +ℤ w) ∷ line (sumOf f g) w ∷ []
 conclusions Prod f g w = line (productOf f g) w ∷ line (productOf f (sumOf g ONE)) w ∷ []
 
 abbrev pub changes : Rule → List ℕ → List ℕ → ℤ → List Line
@@ -49,10 +48,6 @@ covers L P (line f w ∷ Q) = cond (some f) (leZ (weight P f) (weight L f)) true
 abbrev pub there : List Line → List Line → Bool
 there L P = covers L P P
 
-unfoldable pub allShort : List Line → Bool
-allShort [] = true
-allShort (line f w ∷ L) = leb (length f) 64 && allShort L
-
 -- ---- one step of a configuration
 -- "12 plain mode and a negative line; 8; 9 plain mode and the weight not there"
 abbrev pub modeTests : Rule → Mode → List ℕ → List ℕ → ℤ → List Line → List Test
@@ -61,18 +56,24 @@ modeTests r m f g w L =
     test 8 (amountFits m w) ∷
     test 9 (not (isPlain m) || there L (premises r f g w)) ∷ []
 
--- "7 a result over 64 terms", then the limits, 10 and 11, of the lines with the changes
+-- "7 a result over 64 terms", of each result in its turn
+abbrev pub lengthTests : List Line → List Test
+lengthTests [] = []
+lengthTests (line f w ∷ C) = short f ∷ lengthTests C
+
+-- then the limits, 10 and 11, of the lines with the changes
 abbrev pub changed : Rule → List ℕ → List ℕ → ℤ → List Line → Outcome (List Line)
-changed r f g w L = unless (allShort (conclusions r f g w)) 7 (within (addAll (changes r f g w) L))
+changed r f g w L = passing (lengthTests (conclusions r f g w)) (within (addAll (changes r f g w) L))
 
 unfoldable pub step : Rule → Mode → List ℕ → List ℕ → ℤ → List Line → Outcome (List Line)
 step r m f g w L = passing (modeTests r m f g w L) (changed r f g w L)
 
 -- ---- a step that is taken directly: its operands are tested first
--- "7 f or g longer than 64; 6; 16 terms of f or g not in strict written order"
+-- "7 f or g longer than 64; 6; 16 terms of f or g not in strict written order"; 7 tells "for an f or g given too long its length, f's if both" (document 02, Ask 6)
 abbrev pub operandTests : ℕ → List ℕ → List ℕ → List Test
 operandTests n f g =
-    test 7 (leb (length f) 64 && leb (length g) 64) ∷
+    short f ∷
+    short g ∷
     test 6 (below n f && below n g) ∷
     test 16 (sorted before f && sorted before g) ∷ []
 

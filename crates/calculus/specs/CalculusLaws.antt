@@ -13,7 +13,6 @@ use lib.ListN.{length}
 use lib.Pow.{pow-pos}
 use borrow.Author.Tests.{not-true}
 use Rattle.refusal.specs.Outcome.{Outcome, accepted, refused, after}
-use Rattle.refusal.specs.OutcomeLaws.{unless-taken}
 use Rattle.refusal.specs.Tests.{AllPassed}
 use Rattle.refusal.specs.TestsLaws.{passing-taken}
 use Rattle.run.specs.BooleanLaws.{is-true, of-true, both, cond-ind}
@@ -29,7 +28,7 @@ use Rattle.configuration.specs.SumLaws.{share-neg, solve, o, v, _⊞_, ⊟}
 use Rattle.configuration.specs.ConfigurationLaws.{same-is, same-none, total-negated, total-append, same-changes, cost-all, weight-all, all-every, all-ordered, weight-behind, weight-head, all-fit}
 use Rattle.configuration.specs.Limits.{within}
 use Rattle.configuration.specs.LineLaws.{polynomial-below, polynomial-is, sum-sign, every-append, within-accepted, configuration-parts, parts-configuration}
-use Rattle.calculus.specs.Calculus.{premises, conclusions, changes, isPlain, amountFits, covers, there, allShort, modeTests, changed, step, operandTests, directStep}
+use Rattle.calculus.specs.Calculus.{premises, conclusions, changes, isPlain, amountFits, covers, there, modeTests, lengthTests, changed, step, operandTests, directStep}
 use Rattle.calculus.specs.declared.Rule.{Rule}
 use Rattle.calculus.specs.declared.Rule.the-variants.{Sum, Prod}
 use Rattle.calculus.specs.declared.Mode.{Mode}
@@ -37,11 +36,10 @@ use Rattle.calculus.specs.declared.Mode.the-variants.{Plain}
 use Rattle.run.specs.BooleanLaws as B
 
 -- ---- every rule is strongly sound: its conclusions cost what its premises cost, at every assignment
-sum-sound : (a b : Bool) (w : ℤ) → share a w +ℤ (share b w +ℤ pos 0) ≡ share (a ⊕ b) w +ℤ (share (a && b) (w +ℤ w) +ℤ pos 0)
-sum-sound true true w = solve (w ∷ []) (v 0 ⊞ (v 0 ⊞ o)) (o ⊞ (v 0 ⊞ v 0 ⊞ o)) tt
-sum-sound true false w = refl
-sum-sound false true w = solve (w ∷ []) (o ⊞ (v 0 ⊞ o)) (v 0 ⊞ o) tt
-sum-sound false false w = refl
+sum-sound : (a b : Bool) (w : ℤ) → share a w +ℤ (share b w +ℤ pos 0) ≡ share (a && b) (w +ℤ w) +ℤ (share (a ⊕ b) w +ℤ pos 0)
+sum-sound true true w = solve (w ∷ []) (v 0 ⊞ (v 0 ⊞ o)) (v 0 ⊞ v 0 ⊞ (o ⊞ o)) tt
+sum-sound true false w = solve (w ∷ []) (v 0 ⊞ (o ⊞ o)) (o ⊞ (v 0 ⊞ o)) tt
+sum-sound false b w = refl
 
 prod-sound : (a b : Bool) (w : ℤ) → share a w +ℤ pos 0 ≡ share (a && b) w +ℤ (share (a && (b ⊕ true)) w +ℤ pos 0)
 prod-sound true true w = refl
@@ -96,7 +94,7 @@ pub record TakenStep (r : Rule) (d : Mode) (f g : List ℕ) (w : ℤ) (L M : Lis
   pub plain : not (isPlain d && anyNegative L) ≡ true
   pub amount : amountFits d w ≡ true
   pub covered : (not (isPlain d) || there L (premises r f g w)) ≡ true
-  pub short : allShort (conclusions r f g w) ≡ true
+  pub short : AllPassed (lengthTests (conclusions r f g w))
   pub result : M ≡ addAll (changes r f g w) L
   pub lines : length M ≤ 128
   pub weights : T (weightsFit M)
@@ -105,7 +103,7 @@ pub step-passed : (r : Rule) (d : Mode) (f g : List ℕ) (w : ℤ) (L M : List L
 unfolding step
 step-passed r d f g w L M e =
     let a : _ = passing-taken (modeTests r d f g w L) (changed r f g w L) e in
-    let h : _ = unless-taken (allShort (conclusions r f g w)) 7 (within (addAll (changes r f g w) L)) (a .1) in
+    let h : _ = passing-taken (lengthTests (conclusions r f g w)) (within (addAll (changes r f g w) L)) (a .1) in
     let x : _ = within-accepted (addAll (changes r f g w) L) M (h .1) in
     record {
       plain = a .0 .0;
@@ -126,7 +124,7 @@ step-cost r d f g w L α = go (step r d f g w L) refl
   where
     go : (s : Outcome (List Line)) → step r d f g w L ≡ s → cost (after L s .reached) α ≡ cost L α
     go (accepted M) e = rw (step-taken r d f g w L M e) (stepped-cost r f g w L α)
-    go (refused n) e = refl
+    go (refused x) e = refl
 
 -- ---- a step that is taken is the rule, folded: premises away, conclusions in, and nothing else
 pub step-weights : (r : Rule) (d : Mode) (f g : List ℕ) (w : ℤ) (L M : List Line) → step r d f g w L ≡ accepted M → (p : List ℕ) → T (some p)
@@ -200,7 +198,7 @@ amount-sign (negsuc n) h = sym h
 
 conclusions-sign : (r : Rule) (f g : List ℕ) (w : ℤ) → isNegative w ≡ false → anyNegative (conclusions r f g w) ≡ false
 unfolding anyNegative
-conclusions-sign Sum f g w h = rw (h, sum-sign w w h h)
+conclusions-sign Sum f g w h = rw (sum-sign w w h h, h)
 conclusions-sign Prod f g w h = rw h
 
 pub plain-stays : (r : Rule) (f g : List ℕ) (w : ℤ) (L M : List Line) → InOrder L → step r Plain f g w L ≡ accepted M → anyNegative M ≡ false
@@ -215,13 +213,9 @@ plain-stays r f g w L M k e =
 
 -- ---- a step keeps what is asked of every line
 -- lines of at most 64 terms are of polynomials where their terms are ordered and of n variables
-short-fit : (n : ℕ) (C : List Line) → T (allShort C) → Every (RunBelow n) C → Every (λ p. T (isPolynomial n p)) C
-unfolding allShort
+short-fit : (n : ℕ) (C : List Line) → AllPassed (lengthTests C) → Every (RunBelow n) C → Every (λ p. T (isPolynomial n p)) C
 short-fit n [] h c = tt
-short-fit n (line f w ∷ C) h c = (
-  polynomial-is n f (B.left (leb (length f) 64) (allShort C) h) (c .0 .0) (c .0 .1),
-  short-fit n C (B.right (leb (length f) 64) (allShort C) h) (c .1),
-)
+short-fit n (line f w ∷ C) h c = (polynomial-is n f (of-true (h .0)) (c .0 .0) (c .0 .1), short-fit n C (h .1) (c .1))
 
 every-negated : (P : List ℕ → Type 0) (L : List Line) → Every P L → Every P (negated L)
 unfolding negated
@@ -247,7 +241,7 @@ conclusions-run r f g w n a b = go r
     one = (pow-pos n, tt)
 
     go : (r : Rule) → Every (RunBelow n) (conclusions r f g w)
-    go Sum = ((sum-below n f g a b, sum-ordered f g), ((product-below n f g a b, product-ordered f g), tt))
+    go Sum = ((product-below n f g a b, product-ordered f g), ((sum-below n f g a b, sum-ordered f g), tt))
     go Prod = ((product-below n f g a b, product-ordered f g), ((product-below n f g₁ a (sum-below n g ONE b one), product-ordered f g₁), tt))
 
 -- so are the lines that a step leaves, where those before it are
@@ -258,17 +252,17 @@ step-run r d f g w n L M hf hg h e =
     (all-every (RunBelow n) (changes r f g w) L (changes-every (RunBelow n) r f g w hf hg (conclusions-run r f g w n (hf .0) (hg .0))) h)
 
 module _ (r : Rule) (f g : List ℕ) (w : ℤ) (n : ℕ) (hf : T (isPolynomial n f)) (hg : T (isPolynomial n g)) where
-  conclusions-fit : T (allShort (conclusions r f g w)) → Every (λ p. T (isPolynomial n p)) (conclusions r f g w)
+  conclusions-fit : AllPassed (lengthTests (conclusions r f g w)) → Every (λ p. T (isPolynomial n p)) (conclusions r f g w)
   conclusions-fit h = short-fit n (conclusions r f g w) h (conclusions-run r f g w n (polynomial-below n f hf) (polynomial-below n g hg))
 
-  changes-fit : T (allShort (conclusions r f g w)) → Every (λ p. T (isPolynomial n p)) (changes r f g w)
+  changes-fit : AllPassed (lengthTests (conclusions r f g w)) → Every (λ p. T (isPolynomial n p)) (changes r f g w)
   changes-fit h = changes-every (λ p. T (isPolynomial n p)) r f g w hf hg (conclusions-fit h)
 
 pub step-fits : (r : Rule) (d : Mode) (f g : List ℕ) (w : ℤ) (n : ℕ) (L M : List Line) → T (isPolynomial n f) → T (isPolynomial n g) → T (linesFit n L)
     → step r d f g w L ≡ accepted M → T (linesFit n M) × (length M ≤ 128) × T (weightsFit M)
 step-fits r d f g w n L M p q h e =
     let s : TakenStep r d f g w L M = step-passed r d f g w L M e in
-    (rw (s .result) (all-fit n (changes r f g w) L (changes-fit r f g w n p q (of-true (s .short))) h), s .lines, s .weights)
+    (rw (s .result) (all-fit n (changes r f g w) L (changes-fit r f g w n p q (s .short)) h), s .lines, s .weights)
 
 pub step-keeps : (r : Rule) (d : Mode) (f g : List ℕ) (w : ℤ) (n : ℕ) (L M : List Line) → T (isConfiguration n L) → T (isPolynomial n f) → T (isPolynomial n g)
     → step r d f g w L ≡ accepted M → T (isConfiguration n M)
@@ -278,14 +272,15 @@ step-keeps r d f g w n L M c p q e =
     parts-configuration n M (record { variables = k .variables; room = h .1; fit = h .0; weights = h .2 })
 
 -- ---- a step that is taken directly: its operands passed their tests, and it is the step
--- three tests of two each, as two tests of three each
-regroup : (a b c d x y : Bool) → T (a && b) → T (c && d) → T (x && y) → T (a && (c && x)) × T (b && (d && y))
-regroup a b c d x y h k l =
-    (both a (c && x) (B.left a b h) (both c x (B.left c d k) (B.left x y l)), both b (d && y) (B.right a b h) (both d y (B.right c d k) (B.right x y l)))
+-- a test of each and two tests of both, as three tests of each
+regroup : (a b c d x y : Bool) → T a → T b → T (c && d) → T (x && y) → T (a && (c && x)) × T (b && (d && y))
+regroup a b c d x y h i k l =
+    (both a (c && x) h (both c x (B.left c d k) (B.left x y l)), both b (d && y) i (both d y (B.right c d k) (B.right x y l)))
 
 pub operands-passed : (n : ℕ) (f g : List ℕ) → AllPassed (operandTests n f g) → T (isPolynomial n f) × T (isPolynomial n g)
 operands-passed n f g a =
-    regroup (leb (length f) 64) (leb (length g) 64) (below n f) (below n g) (sorted before f) (sorted before g) (of-true (a .0)) (of-true (a .1 .0)) (of-true (a .1 .1 .0))
+    regroup (leb (length f) 64) (leb (length g) 64) (below n f) (below n g) (sorted before f) (sorted before g)
+    (of-true (a .0)) (of-true (a .1 .0)) (of-true (a .1 .1 .0)) (of-true (a .1 .1 .1 .0))
 
 module _ (r : Rule) (d : Mode) (f g : List ℕ) (w : ℤ) (n : ℕ) (L M : List Line) (e : directStep r d f g w n L ≡ accepted M) where
   pub direct-passed : T (isPolynomial n f) × T (isPolynomial n g) × (step r d f g w L ≡ accepted M)

@@ -7,7 +7,6 @@ use Prim.Native.Nat.{ℕ}
 use lib.Dec.{leb}
 use lib.IntN.{ℤ, negℤ}
 use lib.ListN.{length}
-use Rattle.run.specs.BooleanLaws.{of-true, is-true, left}
 use Rattle.run.specs.F2.{_⊕_}
 use Rattle.refusal.specs.Tests.{AllPassed}
 use Rattle.polynomial.specs.Polynomial.{ONE, eval, sumOf, productOf}
@@ -16,7 +15,7 @@ use Rattle.configuration.specs.Weight.{share}
 use Rattle.configuration.specs.Configuration.{Line, same, total, weight, addAll, negated, InOrder, weightsFit}
 use Rattle.configuration.specs.SumLaws.{share-neg, share-add, solve, o, v, _⊞_, ⊟}
 use Rattle.configuration.specs.ConfigurationLaws.{same-changes, changes-append}
-use Rattle.calculus.specs.Calculus.{conclusions, changes, allShort}
+use Rattle.calculus.specs.Calculus.{changes}
 use Rattle.calculus.specs.Simulation.{Application, apply, bySum, byProds, applied, AllAccepted}
 use Rattle.calculus.specs.Tests.{directTests}
 use Rattle.calculus.specs.TestsLaws.{direct-decided}
@@ -69,7 +68,7 @@ same-weights f g w p =
     let s : List ℕ → ℤ = λ q. share (same p q) w in
     simp (sum-by-first f g, sum-by-rest f g, product-turned f g, share-neg, share-add)
     (solve (s f ∷ s g ∷ s (sumOf f g) ∷ s (productOf f g) ∷ s (productOf f (sumOf g ONE)) ∷ s (productOf g (sumOf f ONE)) ∷ [])
-    (⊟ (v 0) ⊞ (⊟ (v 1) ⊞ (v 2 ⊞ (v 3 ⊞ v 3 ⊞ o))))
+    (⊟ (v 0) ⊞ (⊟ (v 1) ⊞ (v 3 ⊞ v 3 ⊞ (v 2 ⊞ o))))
     (⊟ (⊟ (v 2)) ⊞ (⊟ (v 4) ⊞ (⊟ (v 5) ⊞ (⊟ (v 0) ⊞ (v 3 ⊞ (v 4 ⊞ (⊟ (v 1) ⊞ (v 3 ⊞ (v 5 ⊞ o))))))))) tt)
 
 -- ---- without limits: any polynomials, any whole number, any configuration, however long and whatever its weights
@@ -81,21 +80,15 @@ sum-by-prods f g w L h =
 -- ---- within the limits: SUM passes its tests. Those of f, g and the amount are the second PROD's too; f + g is an operand of the first, f g a conclusion of the second; the lines that result are
 -- those of the third.
 pub sum-accepted : (f g : List ℕ) (w : ℤ) (n : ℕ) (L : List Line) → InOrder L → AllAccepted n (byProds f g w) L → AllAccepted n (bySum f g w) L
-unfolding applied allShort
+unfolding applied
 sum-accepted f g w n L h a =
-    let first : _ = direct-decided Prod Signed (sumOf f g) f (negℤ w) n L .if-taken _ (a .0) .0 in
-    let second : _ = direct-decided Prod Signed f g w n _ .if-taken _ (a .1 .0) .0 in
-    let third : _ = direct-decided Prod Signed g f w n _ .if-taken _ (a .1 .1 .0) .0 in
-    let amount : _ = second .1 .1 .1 .1 .0 in
-    let results : _ = short (first .0) (second .1 .1 .1 .1 .1 .1 .0) in
-    let lines : _ = ap (λ (M : List Line). leb (length M) 128) (sum-by-prods f g w L h) ∙ third .1 .1 .1 .1 .1 .1 .1 .0 in
-    let weights : _ = ap weightsFit (sum-by-prods f g w L h) ∙ third .1 .1 .1 .1 .1 .1 .1 .1 .0 in
+    let first : _ = direct-decided Prod Signed (sumOf f g) f (negℤ w) L n .if-taken _ (a .0) .0 in
+    let second : _ = direct-decided Prod Signed f g w _ n .if-taken _ (a .1 .0) .0 in
+    let third : _ = direct-decided Prod Signed g f w _ n .if-taken _ (a .1 .1 .0) .0 in
+    let amount : _ = second .1 .1 .1 .1 .1 .0 in
+    let product-short : _ = second .1 .1 .1 .1 .1 .1 .1 .0 in
+    let lines : _ = ap (λ (M : List Line). leb (length M) 128) (sum-by-prods f g w L h) ∙ third .1 .1 .1 .1 .1 .1 .1 .1 .1 .0 in
+    let weights : _ = ap weightsFit (sum-by-prods f g w L h) ∙ third .1 .1 .1 .1 .1 .1 .1 .1 .1 .1 .0 in
     let passed : AllPassed (directTests Sum Signed f g w n L) =
-    (second .0, (second .1 .0, (second .1 .1 .0, (refl, (amount, (refl, (results, (lines, (weights, tt))))))))) in
-    (direct-decided Sum Signed f g w n L .if-passed passed, tt)
-  where
-    short : (leb (length (sumOf f g)) 64 && leb (length f) 64) ≡ true → allShort (conclusions Prod f g w) ≡ true → allShort (conclusions Sum f g w) ≡ true
-    short h k = rw (
-      is-true (leb (length (sumOf f g)) 64) (left (leb (length (sumOf f g)) 64) (leb (length f) 64) (of-true h)),
-      is-true (leb (length (productOf f g)) 64) (left (leb (length (productOf f g)) 64) (leb (length (productOf f (sumOf g ONE))) 64 && true) (of-true k)),
-    )
+    (second .0, (second .1 .0, (second .1 .1 .0, (second .1 .1 .1 .0, (refl, (amount, (refl, (product-short, (first .0, (lines, (weights, tt))))))))))) in
+    (direct-decided Sum Signed f g w L n .if-passed passed, tt)

@@ -1,21 +1,42 @@
--- All tests of a step in their order. A step is taken exactly where all of them are passed, and otherwise refused for the first that is not: TestsLaws.antt.
+-- All tests of a step in their order, and what its refusal 7 tells. A step is taken exactly where all tests are passed, and otherwise refused for the first that is not: TestsLaws.antt.
+use mathlib.Core.Path.{_≡_}
+use mathlib.Core.Logic.{_⊎_}
 use mathlib.Core.List.{List, [], _∷_, _++_}
-use Prim.Native.Nat.{ℕ}
+use Prim.Native.Nat.{ℕ, _≤_, _<_}
 use lib.Dec.{leb}
 use lib.IntN.{ℤ}
 use lib.ListN.{length}
 use Rattle.refusal.specs.Outcome.{Test, test}
+use Rattle.refusal.specs.Tests.{TermsOf}
+use Rattle.polynomial.specs.Polynomial.{ONE, sumOf, productOf}
 use Rattle.configuration.specs.Configuration.{Line, addAll, weightsFit}
-use Rattle.calculus.specs.Calculus.{conclusions, changes, allShort, modeTests, operandTests}
+use Rattle.calculus.specs.Calculus.{conclusions, changes, modeTests, lengthTests, operandTests}
 use Rattle.calculus.specs.declared.Rule.{Rule}
+use Rattle.calculus.specs.declared.Rule.the-variants.{Sum, Prod}
 use Rattle.calculus.specs.declared.Mode.{Mode}
 
 -- the tests of the mode, then "7 a result over 64 terms; 10; 11", the last two of the lines with the changes folded in
 abbrev pub stepTests : Rule → Mode → List ℕ → List ℕ → ℤ → List Line → List Test
 stepTests r d f g w L =
     let M = addAll (changes r f g w) L in
-    modeTests r d f g w L ++ (test 7 (allShort (conclusions r f g w)) ∷ test 10 (leb (length M) 128) ∷ test 11 (weightsFit M) ∷ [])
+    modeTests r d f g w L ++ lengthTests (conclusions r f g w) ++ (test 10 (leb (length M) 128) ∷ test 11 (weightsFit M) ∷ [])
 
 -- those of a step that is taken directly, in a configuration of n variables
 abbrev pub directTests : Rule → Mode → List ℕ → List ℕ → ℤ → ℕ → List Line → List Test
 directTests r d f g w n L = operandTests n f g ++ stepTests r d f g w L
+
+-- ---- what refusal 7 tells (document 02, Ask 6): "fg is told first, then f + g or f(g + 1)"
+abbrev pub otherResult : Rule → List ℕ → List ℕ → List ℕ
+otherResult Sum f g = sumOf f g
+otherResult Prod f g = productOf f (sumOf g ONE)
+
+-- where f g is short enough, f (g + 1) is the sum of two polynomials as f + g is
+abbrev pub LongResult : Rule → List ℕ → List ℕ → ℕ → Type 0
+LongResult r f g k = TermsOf (productOf f g) 4096 k ⊎ ((length (productOf f g) ≤ 64) × TermsOf (otherResult r f g) 128 k)
+
+-- a step that is taken directly: "for an f or g given too long its length, f's if both"
+abbrev pub LongStep : Rule → List ℕ → List ℕ → ℕ → Type 0
+LongStep r f g k =
+    ((k ≡ length f) × (64 < k))
+    ⊎ (((length f ≤ 64) × (k ≡ length g) × (64 < k))
+    ⊎ ((length f ≤ 64) × (length g ≤ 64) × LongResult r f g k))

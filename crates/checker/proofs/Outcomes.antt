@@ -7,8 +7,8 @@ use lib.Dec.{T}
 use lib.ListN.{length}
 use borrow.Author.Tests.{eq-eqb, ne-eqb}
 use Rattle.run.specs.BooleanLaws.{of-true}
-use Rattle.refusal.specs.Refusal.{numberOf}
-use Rattle.refusal.specs.Outcome.{Outcome, accepted, refused, mapped, Test, test, passing, Reached, after, stopOf, objected, Told, refusedAt}
+use Rattle.refusal.specs.Refusal.{numbered, refusalOf}
+use Rattle.refusal.specs.Outcome.{Outcome, accepted, refused, mapped, Test, testFor, passing, Reached, after, stopOf, objected, Told, refusedAt}
 use Rattle.refusal.specs.OutcomeLaws.{not-both, same-refused, after-refused, after-accepted}
 use Rattle.refusal.specs.TestsLaws.{passing-taken}
 use Rattle.refusal.specs.declared.Reason.{Reason}
@@ -28,10 +28,10 @@ module _ (m : Memory) where
   abbrev passed : Outcome (Unit {0})
   passed = accepted tt
 
-  pub not-long : (length (m .terms) ≡ 8192 → ⊥) → refused 1 ≡ admitted backToBack m passed
+  pub not-long : (length (m .terms) ≡ 8192 → ⊥) → refused (numbered 1) ≡ admitted backToBack m passed
   not-long h = sym (not-sized backToBack m passed (rw (ne-eqb (length (m .terms)) 8192 h)))
 
-  pub ill-formed : length (m .terms) ≡ 8192 → length (m .table) ≡ 128 → wellFormed m ≡ false → refused 2 ≡ admitted backToBack m passed
+  pub ill-formed : length (m .terms) ≡ 8192 → length (m .table) ≡ 128 → wellFormed m ≡ false → refused (numbered 2) ≡ admitted backToBack m passed
   ill-formed s t h = sym (not-formed backToBack m passed (rw (eq-eqb (length (m .terms)) 8192 s, eq-eqb (length (m .table)) 128 t)) h)
 
   pub all-fit : wellFormed m ≡ true → passed ≡ admitted backToBack m passed
@@ -45,9 +45,9 @@ module _ (m : Memory) where
         go : {A : Type 0} (found : Objection) (ts : List Test) (o : Outcome A) → objected found passed ≡ passing ts passed → objected found o ≡ passing ts o
         go Nothing [] o e = refl
         go (Found r) [] o e = absurd (not-both (sym e))
-        go found (test n true ∷ ts) o e = go found ts o e
-        go Nothing (test n false ∷ ts) o e = absurd (not-both e)
-        go (Found r) (test n false ∷ ts) o e = ap refused (same-refused e)
+        go found (testFor x true ∷ ts) o e = go found ts o e
+        go Nothing (testFor x false ∷ ts) o e = absurd (not-both e)
+        go (Found r) (testFor x false ∷ ts) o e = ap refused (same-refused e)
 
     pub well : found ≡ Nothing → T (wellFormed m)
     well e = of-true (passing-taken (memoryTests backToBack m) passed (sym tested ∙ ap (λ (x : Objection). objected x passed) e) .0 .1 .0)
@@ -67,9 +67,9 @@ module _ (m : Memory) (step : List Line → Outcome (List Line)) (L N : List Lin
   abbrev reached : Objection → Reached (List Line)
   reached o = record { reached = N; stop = stopOf o }
 
-  pub step-refused : (reason : Reason) → found ≡ Found reason → leftOf m (refusedAt 0 (numberOf reason)) ≡ outcome (standingOf m)
+  pub step-refused : (reason : Reason) → found ≡ Found reason → leftOf m (refusedAt 0 (refusalOf reason)) ≡ outcome (standingOf m)
   step-refused reason e =
-      let s : step L ≡ refused (numberOf reason) = after-refused L N (numberOf reason) (step L) (ap reached (sym e) ∙ made) .0 in
+      let s : step L ≡ refused (refusalOf reason) = after-refused L N (refusalOf reason) (step L) (ap reached (sym e) ∙ made) .0 in
       ap (λ (o : Outcome (List Line)). leftBy backToBack m (mapped (stepped (m .variables)) o)) (sym s) ∙ ap outcome held
 
   pub step-taken : found ≡ Nothing → (k : Memory) → k ≡ imageOf (m .variables) N → leftOf k done ≡ outcome (standingOf m)

@@ -5,7 +5,7 @@ use Prim.Native.Nat.{ℕ}
 use lib.Dec.{leb}
 use lib.IntN.{ℤ}
 use lib.ListN.{length, drop}
-use Rattle.refusal.specs.Refusal.{numberOf}
+use Rattle.refusal.specs.Refusal.{refusalOf}
 use Rattle.refusal.specs.Outcome.{Outcome, accepted, refused, unless, mapped, Test, test, passing, Told, answered, refusedAt}
 use Rattle.configuration.specs.Configuration.{Line}
 use Rattle.configuration.specs.Made.{Made}
@@ -49,7 +49,7 @@ pub record Written : Type 0 where
 
 abbrev pub writtenBy : List ℕ → Outcome (List ℕ) → Written
 writtenBy area (accepted text) = record { area = text ++ drop (length text) area; told = answered (length text) }
-writtenBy area (refused n) = record { area = area; told = refusedAt 0 n }
+writtenBy area (refused x) = record { area = area; told = refusedAt 0 x }
 
 abbrev pub fitting : List ℕ → List ℕ → Outcome (List ℕ)
 fitting area text = unless (leb (length text) (length area)) 14 (accepted text)
@@ -66,7 +66,7 @@ module _ (l : Layout) where
   -- where m was lent: the image of what the operation makes, or m as it was
   abbrev pub leftBy : {A : Type 0} → Memory → Outcome (Made A) → Left A
   leftBy m (accepted x) = leftOf (imageUnder l (x .variables) (x .lines)) (x .told)
-  leftBy m (refused n) = leftOf m (refusedAt 0 n)
+  leftBy m (refused x) = leftOf m (refusedAt 0 x)
 
   -- taking one step
   unfoldable pub stepUnder : Rule → Mode → List ℕ → List ℕ → ℤ → Memory → Left (Unit {0})
@@ -109,8 +109,8 @@ codeIn m = codeOf (m .variables) (standingOf m)
 -- ---- the paper's words for the answers
 abbrev pub toldOfStep : StepAnswer → Told (Unit {0})
 toldOfStep S.Taken = done
-toldOfStep (S.Refused k reason) = refusedAt k (numberOf reason)
+toldOfStep (S.Refused k reason) = refusedAt k (refusalOf reason)
 
 abbrev pub toldOfLine : LineAnswer → Told ℕ
 toldOfLine (L.Written n) = answered n
-toldOfLine (L.Refused k reason) = refusedAt k (numberOf reason)
+toldOfLine (L.Refused k reason) = refusedAt k (refusalOf reason)

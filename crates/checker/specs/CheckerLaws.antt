@@ -8,7 +8,8 @@ use native.Mathlib.Omega.{arith}
 use lib.Dec.{T, leb}
 use lib.IntN.{ℤ}
 use Rattle.run.specs.BooleanLaws.{is-true}
-use Rattle.refusal.specs.Outcome.{Outcome, accepted, refused, unless, mapped, Test, test, passing, Told, answered, refusedAt}
+use Rattle.refusal.specs.Refusal.{Refusal, numbered}
+use Rattle.refusal.specs.Outcome.{Outcome, accepted, refused, unless, mapped, Test, testFor, passing, Told, answered, refusedAt}
 use Rattle.configuration.specs.Configuration.{Line}
 use Rattle.memory.specs.Memory.{Memory, Layout, sized, standingUnder, imageUnder, wellFormedUnder, Faithful}
 use Rattle.memory.specs.LayoutLaws.{well-sized}
@@ -23,22 +24,22 @@ use Rattle.checker.specs.Checker.{leftOf, stepped, lent, writtenBy, fitt
 -- ---- tests in front of what is made of an outcome
 passing-mapped : {A B : Type 0} (h : A → B) (ts : List Test) (o : Outcome A) → passing ts (mapped h o) ≡ mapped h (passing ts o)
 passing-mapped h [] o = refl
-passing-mapped h (test n true ∷ ts) o = passing-mapped h ts o
-passing-mapped h (test n false ∷ ts) o = refl
+passing-mapped h (testFor x true ∷ ts) o = passing-mapped h ts o
+passing-mapped h (testFor x false ∷ ts) o = refl
 
 -- an answer is no refusal
-pub not-refusal : {A : Type 0} {x : A} {k n : ℕ} → answered x ≡ refusedAt k n → ⊥
+pub not-refusal : {A : Type 0} {p : A} {k : ℕ} {x : Refusal} → answered p ≡ refusedAt k x → ⊥
 not-refusal e = let z : _≡_ {A = ℕ} 0 1 = cc in let i : ⊥ = omega arith in i
 
-pub same-refusal : {A : Type 0} {j k i n : ℕ} → _≡_ {A = Told A} (refusedAt j i) (refusedAt k n) → (j ≡ k) × (i ≡ n)
+pub same-refusal : {A : Type 0} {j k : ℕ} {x y : Refusal} → _≡_ {A = Told A} (refusedAt j x) (refusedAt k y) → (j ≡ k) × (x ≡ y)
 same-refusal e = (cc, cc)
 
 -- ---- a memory that is refused, and one that is not
 module _ (l : Layout) {A : Type 0} (m : Memory) (o : Outcome A) where
-  pub not-sized : sized m ≡ false → admitted l m o ≡ refused 1
+  pub not-sized : sized m ≡ false → admitted l m o ≡ refused (numbered 1)
   not-sized h = rw h
 
-  pub not-formed : sized m ≡ true → wellFormedUnder l m ≡ false → admitted l m o ≡ refused 2
+  pub not-formed : sized m ≡ true → wellFormedUnder l m ≡ false → admitted l m o ≡ refused (numbered 2)
   not-formed h k = rw (h, k)
 
 pub admitted-well : {l : Layout} (q : Faithful l) {A : Type 0} (m : Memory) (o : Outcome A) → T (wellFormedUnder l m) → admitted l m o ≡ o
@@ -61,7 +62,7 @@ module _ (l : Layout) where
     unfolding fileUnder
     file-sized h = rw h
 
-    pub file-unsized : sized m ≡ false → fileUnder l s m ≡ leftOf (lent (m .terms) (m .table)) (refusedAt 0 1)
+    pub file-unsized : sized m ≡ false → fileUnder l s m ≡ leftOf (lent (m .terms) (m .table)) (refusedAt 0 (numbered 1))
     unfolding fileUnder
     file-unsized h = rw h
 

@@ -74,7 +74,7 @@ module _ (start m : Memory) (k : Kept start m) where
     where
       go : (o : Outcome (List Line)) → directStep r d f g w n L ≡ o → Kept start (leftBy backToBack m (mapped (stepped n) o) .memory)
       go (accepted N) e = image-kept N (direct-keeps r d f g w n L N e (well-configuration backToBack m (k .well))) (direct-cost r d f g w n L N e)
-      go (refused i) e = k
+      go (refused x) e = k
 
   check-kept : (s : List ℕ) → Kept start (checkIn s m .memory)
   check-kept s =

@@ -7,13 +7,14 @@ use lib.IntN.{ℤ, pos, negsuc}
 use lib.Count.{ones}
 use Rattle.run.specs.Run.{toggleBy, normalBy, sorted}
 use Rattle.term.specs.Term.{before}
+use Rattle.refusal.specs.Refusal.{numbered}
 use Rattle.refusal.specs.Outcome.{Told, refusedAt}
 use Rattle.mask.specs.Mask.{unions}
 use Rattle.polynomial.specs.Polynomial.{ZERO, ONE, factors, clauseOf, orderOf}
 use Rattle.configuration.specs.Configuration.{Line, line, total, fold, add, addAll, negated, below, lineFits, linesFit, weightsFit, anyNegative}
 use Rattle.configuration.specs.Limits.{within}
 use Rattle.memory.specs.Memory.{Memory, imageOf, readLines, allTerms, entriesOf, alike}
-use Rattle.calculus.specs.Calculus.{covers, allShort, step, directStep}
+use Rattle.calculus.specs.Calculus.{covers, step, directStep}
 use Rattle.calculus.specs.declared.Rule.the-variants.{Sum, Prod}
 use Rattle.calculus.specs.declared.Mode.the-variants.{Plain, Signed}
 use Rattle.record.specs.Letters.{letterN, letterZ, letterB}
@@ -41,7 +42,7 @@ abbrev makes : List Line → Left (Unit {0})
 makes L = leftOf (holding L) done
 
 abbrev refuses : List Line → ℕ → Left (Unit {0})
-refuses L n = leftOf (holding L) (refusedAt 0 n)
+refuses L n = leftOf (holding L) (refusedAt 0 (numbered n))
 
 -- a derivation in a mode that makes a claim and nothing else: the mode's letter, B, eight bytes
 abbrev claiming : ℕ → List ℕ → List ℕ
@@ -82,12 +83,12 @@ pub record DeskTable : Type 0 where
   -- empty standing, signed PROD of x1 by x2, 1: x1 at -1, x1*x2 at 1, x1*x2 + x1 at 1; claim 0 refused 12
   pub row9 : (stepIn Prod Signed x1 x2 (pos 1) (holding []) ≡ makes (line x1x2 (pos 1) ∷ line (3 ∷ 1 ∷ []) (pos 1) ∷ line x1 (negsuc 0) ∷ []))
       × (checkIn (claiming letterZ (number 0)) (holding (line x1x2 (pos 1) ∷ line (3 ∷ 1 ∷ []) (pos 1) ∷ line x1 (negsuc 0) ∷ []))
-      ≡ answers (line x1x2 (pos 1) ∷ line (3 ∷ 1 ∷ []) (pos 1) ∷ line x1 (negsuc 0) ∷ []) (refusedAt 2 12))
+      ≡ answers (line x1x2 (pos 1) ∷ line (3 ∷ 1 ∷ []) (pos 1) ∷ line x1 (negsuc 0) ∷ []) (refusedAt 2 (numbered 12)))
   -- 1 at 2, claims 2, 3, 0, -1: confirmed, 13, confirmed, 8
   pub row10 : (checkIn (claiming letterN (number 2)) (holding (line ONE (pos 2) ∷ [])) ≡ answers (line ONE (pos 2) ∷ []) (confirmed (pos 2) 0))
-      × (checkIn (claiming letterN (number 3)) (holding (line ONE (pos 2) ∷ [])) ≡ answers (line ONE (pos 2) ∷ []) (refusedAt 2 13))
+      × (checkIn (claiming letterN (number 3)) (holding (line ONE (pos 2) ∷ [])) ≡ answers (line ONE (pos 2) ∷ []) (refusedAt 2 (numbered 13)))
       × (checkIn (claiming letterN (number 0)) (holding (line ONE (pos 2) ∷ [])) ≡ answers (line ONE (pos 2) ∷ []) (confirmed (pos 0) 0))
-      × (checkIn (claiming letterN minusOne) (holding (line ONE (pos 2) ∷ [])) ≡ answers (line ONE (pos 2) ∷ []) (refusedAt 2 8))
+      × (checkIn (claiming letterN minusOne) (holding (line ONE (pos 2) ∷ [])) ≡ answers (line ONE (pos 2) ∷ []) (refusedAt 2 (numbered 8)))
   -- empty standing, signed SUM of x1 and x2, 10^12: refused 11
   pub row11 : stepIn Sum Signed x1 x2 (pos million²) (holding []) ≡ refuses [] 11
   -- the same with PROD: accepted
@@ -96,7 +97,7 @@ pub record DeskTable : Type 0 where
 
 -- ---- every row holds: all of it is computed
 pub desk-table : DeskTable
-unfolding factors normalBy toggleBy unions before ones below sorted orderOf linesFit lineFits weightsFit anyNegative total add fold addAll negated within covers allShort step directStep littleEndian walk gathered onRecord largest degreeIn derivationDegree checkDerivation readLines allTerms entriesOf alike stepUnder checkUnder
+unfolding factors normalBy toggleBy unions before ones below sorted orderOf linesFit lineFits weightsFit anyNegative total add fold addAll negated within covers step directStep littleEndian walk gathered onRecord largest degreeIn derivationDegree checkDerivation readLines allTerms entriesOf alike stepUnder checkUnder
 desk-table = record {
   row1 = refl;
   row2 = refl;

@@ -109,7 +109,7 @@ module _ {l : Layout} (q : Faithful l) where
 -- what an outcome makes can be held
 abbrev Keeps : {A : Type 0} → Outcome (Made A) → Type 0
 Keeps (accepted x) = T (isConfiguration (x .variables) (x .lines))
-Keeps (refused n) = Unit {0}
+Keeps (refused x) = Unit {0}
 
 module _ {a b : Layout} (p : Faithful a) (q : Faithful b) where
   both-held : (n : ℕ) (L : List Line) → T (isConfiguration n L) → HoldOne a b (imageUnder a n L) (imageUnder b n L)
@@ -135,7 +135,7 @@ module _ {a b : Layout} (p : Faithful a) (q : Faithful b) where
 
     outcome-alike : {A : Type 0} (o : Outcome (Made A)) → Keeps o → SameLeft (leftBy a m o) (leftBy b k o)
     outcome-alike (accepted x) c = (refl, both-held (x .variables) (x .lines) c)
-    outcome-alike (refused i) c = (refl, h)
+    outcome-alike (refused x) c = (refl, h)
 
     core-alike : {A : Type 0} (op : ℕ → List Line → Outcome (Made A)) → Keeps (op n L)
         → SameLeft (leftBy a m (op (m .variables) (standingUnder a m))) (leftBy b k (op (k .variables) (standingUnder b k)))
@@ -148,7 +148,7 @@ module _ {a b : Layout} (p : Faithful a) (q : Faithful b) where
       where
         go : (o : Outcome (List Line)) → directStep r d f g w n L ≡ o → Keeps (mapped (stepped n) o)
         go (accepted N) e = direct-keeps r d f g w n L N e is-configuration
-        go (refused i) e = tt
+        go (refused x) e = tt
 
     check-alike : (s : List ℕ) → SameLeft (checkUnder a s m) (checkUnder b s k)
     check-alike s =

@@ -7,6 +7,7 @@ use Prim.Native.Nat.{ℕ}
 use lib.Dec.{T, eqb, eqb→eq}
 use lib.IntN.{ℤ}
 use lib.ListN.{length}
+use Rattle.refusal.specs.Refusal.{numbered}
 use Rattle.refusal.specs.Outcome.{refusedAt}
 use Rattle.calculus.specs.declared.Rule.{Rule}
 use Rattle.calculus.specs.declared.Mode.{Mode}
@@ -23,17 +24,17 @@ module _ (m : Memory) (other : length (m .table) ≡ 128 → ⊥) where
       go true false h = refl
       go false b h = refl
 
-  pub step-other : (r : Rule) (d : Mode) (f g : List ℕ) (w : ℤ) → stepIn r d f g w m ≡ leftOf m (refusedAt 0 1)
+  pub step-other : (r : Rule) (d : Mode) (f g : List ℕ) (w : ℤ) → stepIn r d f g w m ≡ leftOf m (refusedAt 0 (numbered 1))
   unfolding stepUnder
   step-other r d f g w = rw other-sized
 
-  pub check-other : (s : List ℕ) → checkIn s m ≡ leftOf m (refusedAt 0 1)
+  pub check-other : (s : List ℕ) → checkIn s m ≡ leftOf m (refusedAt 0 (numbered 1))
   unfolding checkUnder
   check-other s = rw other-sized
 
-  pub file-other : (s : List ℕ) → fileIn s m ≡ leftOf (lent (m .terms) (m .table)) (refusedAt 0 1)
+  pub file-other : (s : List ℕ) → fileIn s m ≡ leftOf (lent (m .terms) (m .table)) (refusedAt 0 (numbered 1))
   file-other s = file-unsized backToBack s m other-sized
 
-  pub write-other : (number : ℕ) (area : List ℕ) → writeIn number m area ≡ record { area = area; told = refusedAt 0 1 }
+  pub write-other : (number : ℕ) (area : List ℕ) → writeIn number m area ≡ record { area = area; told = refusedAt 0 (numbered 1) }
   unfolding writeUnder
   write-other number area = rw other-sized

@@ -7,10 +7,11 @@ use Prim.Native.Nat.{ℕ, suc, _≤_}
 use native.Mathlib.Omega.{arith}
 use lib.Dec.{T}
 use Rattle.run.specs.BooleanLaws.{of-true}
+use Rattle.refusal.specs.Refusal.{Refusal, numbered}
 use Rattle.refusal.specs.Outcome.{Outcome, accepted, Told, refusedAt}
 use Rattle.configuration.specs.Configuration.{Line}
 use Rattle.configuration.specs.Made.{Made}
-use Rattle.walk.specs.Walk.{Reader, readAll, Refusal, acceptedBytes}
+use Rattle.walk.specs.Walk.{Reader, readAll, RefusedNext, acceptedBytes}
 use Rattle.memory.specs.Memory.{Memory, backToBack, standingOf, imageOf, sized, wellFormed}
 use Rattle.memory.specs.MemoryLaws.{back-to-back}
 use Rattle.problem.specs.Problem.{filing, empty, fileProblem}
@@ -21,11 +22,11 @@ use Rattle.derivation.specs.RefusedLaws.{check-refused-number, check-refused-fi
 use Rattle.checker.specs.Checker.{Left, leftOf, leftBy, lent, fileIn, checkIn}
 use Rattle.checker.specs.CheckerLaws.{same-refusal, not-sized, not-formed, check-admitted, check-well, file-sized, file-unsized}
 
--- a refusal of number n at record K, where a reader walks over the bytes from a state: K - 1 records are accepted, and the next is refused for that reason, or the
+-- the refusal x at record K, where a reader walks over the bytes from a state: K - 1 records are accepted, and the next is refused for that reason, or the
 -- bytes end there too early
-pub record AtRecord {S : Type 0} (R : Reader S) (s : List ℕ) (x : S) (K n : ℕ) : Type 0 where
-  pub accepted : K ≡ suc ((readAll R s x) .reached .records)
-  pub first : Refusal R s ((readAll R s x) .reached) n
+pub record AtRecord {S : Type 0} (R : Reader S) (s : List ℕ) (p : S) (K : ℕ) (x : Refusal) : Type 0 where
+  pub accepted : K ≡ suc ((readAll R s p) .reached .records)
+  pub first : RefusedNext R s ((readAll R s p) .reached) x
 
 abbrev memoryIn : {A : Type 0} → Left A → Memory
 memoryIn l = l .memory
@@ -34,72 +35,72 @@ abbrev toldIn : {A : Type 0} → Left A → Told A
 toldIn l = l .told
 
 -- ---- a filing
-pub record FilingRefused (s : List ℕ) (m : Memory) (K n : ℕ) : Type 0 where
-  pub unread : K ≡ 0 → fileIn s m ≡ leftOf (lent (m .terms) (m .table)) (refusedAt 0 n)
-  pub read : 1 ≤ K → AtRecord filing s empty K n
+pub record FilingRefused (s : List ℕ) (m : Memory) (K : ℕ) (x : Refusal) : Type 0 where
+  pub unread : K ≡ 0 → fileIn s m ≡ leftOf (lent (m .terms) (m .table)) (refusedAt 0 x)
+  pub read : 1 ≤ K → AtRecord filing s empty K x
   pub stays : 1 ≤ K → fileIn s m .memory ≡ fileIn (acceptedBytes filing s empty) m .memory
 
-pub filing-refused : (s : List ℕ) (m : Memory) (K n : ℕ) → fileIn s m .told ≡ refusedAt K n → FilingRefused s m K n
-filing-refused s m K n e = go (sized m) refl
+pub filing-refused : (s : List ℕ) (m : Memory) (K : ℕ) (x : Refusal) → fileIn s m .told ≡ refusedAt K x → FilingRefused s m K x
+filing-refused s m K x e = go (sized m) refl
   where
-    go : (b : Bool) → sized m ≡ b → FilingRefused s m K n
+    go : (b : Bool) → sized m ≡ b → FilingRefused s m K x
     go true h =
         let t : List ℕ = acceptedBytes filing s empty in
-        let x : fileProblem s .told ≡ refusedAt K n = sym (ap toldIn (file-sized backToBack s m h)) ∙ e in
-        let k : K ≡ suc ((readAll filing s empty) .reached .records) = refused-number s K n x in
-        let p : _ = refused-prefix s K n x in
+        let d : fileProblem s .told ≡ refusedAt K x = sym (ap toldIn (file-sized backToBack s m h)) ∙ e in
+        let k : K ≡ suc ((readAll filing s empty) .reached .records) = refused-number s K x d in
+        let p : _ = refused-prefix s K x d in
         record {
           unread = λ z. let i : ⊥ = omega (arith, k) in absurd i;
-          read = λ z. record { accepted = k; first = refused-first s K n x };
+          read = λ z. record { accepted = k; first = refused-first s K x d };
           stays = λ z. ap memoryIn (file-sized backToBack s m h) ∙ ap₂ imageOf (p .0) (p .1) ∙ sym (ap memoryIn (file-sized backToBack t m h));
         }
     go false h =
-        let u : (0 ≡ K) × (1 ≡ n) = same-refusal (sym (ap toldIn (file-unsized backToBack s m h)) ∙ e) in
+        let u : (0 ≡ K) × (numbered 1 ≡ x) = same-refusal (sym (ap toldIn (file-unsized backToBack s m h)) ∙ e) in
         record {
-          unread = λ z. file-unsized backToBack s m h ∙ ap (λ (i : ℕ). leftOf (lent (m .terms) (m .table)) (refusedAt 0 i)) (u .1);
+          unread = λ z. file-unsized backToBack s m h ∙ ap (λ (y : Refusal). leftOf (lent (m .terms) (m .table)) (refusedAt 0 y)) (u .1);
           read = λ z. let i : ⊥ = omega (arith, u .0) in absurd i;
           stays = λ z. let i : ⊥ = omega (arith, u .0) in absurd i;
         }
 
 -- ---- a check
-pub record CheckRefused (s : List ℕ) (m : Memory) (K n : ℕ) : Type 0 where
-  pub unread : K ≡ 0 → checkIn s m ≡ leftOf m (refusedAt 0 n)
-  pub read : 1 ≤ K → AtRecord (checking (m .variables)) s (fresh (standingOf m)) K n
+pub record CheckRefused (s : List ℕ) (m : Memory) (K : ℕ) (x : Refusal) : Type 0 where
+  pub unread : K ≡ 0 → checkIn s m ≡ leftOf m (refusedAt 0 x)
+  pub read : 1 ≤ K → AtRecord (checking (m .variables)) s (fresh (standingOf m)) K x
   pub stays : 1 ≤ K → checkIn s m .memory ≡ checkIn (acceptedBytes (checking (m .variables)) s (fresh (standingOf m))) m .memory
 
-module _ (s : List ℕ) (m : Memory) (K n : ℕ) (e : checkIn s m .told ≡ refusedAt K n) where
-  -- memory that is refused, for the reason k
-  unfit : (k : ℕ) → checkIn s m ≡ leftOf m (refusedAt 0 k) → CheckRefused s m K n
-  unfit k d =
-      let u : (0 ≡ K) × (k ≡ n) = same-refusal (sym (ap toldIn d) ∙ e) in
+module _ (s : List ℕ) (m : Memory) (K : ℕ) (x : Refusal) (e : checkIn s m .told ≡ refusedAt K x) where
+  -- memory that is refused with y
+  unfit : (y : Refusal) → checkIn s m ≡ leftOf m (refusedAt 0 y) → CheckRefused s m K x
+  unfit y d =
+      let u : (0 ≡ K) × (y ≡ x) = same-refusal (sym (ap toldIn d) ∙ e) in
       record {
-        unread = λ z. d ∙ ap (λ (i : ℕ). leftOf m (refusedAt 0 i)) (u .1);
+        unread = λ z. d ∙ ap (λ (z : Refusal). leftOf m (refusedAt 0 z)) (u .1);
         read = λ z. let i : ⊥ = omega (arith, u .0) in absurd i;
         stays = λ z. let i : ⊥ = omega (arith, u .0) in absurd i;
       }
 
   -- the lines that are checked
-  fit : T (wellFormed m) → CheckRefused s m K n
+  fit : T (wellFormed m) → CheckRefused s m K x
   fit h =
       let v : ℕ = m .variables in
       let L : List Line = standingOf m in
       let t : List ℕ = acceptedBytes (checking v) s (fresh L) in
-      let x : checkDerivation s v L .told ≡ refusedAt K n = sym (ap toldIn (check-well back-to-back s m h)) ∙ e in
-      let k : K ≡ suc ((readAll (checking v) s (fresh L)) .reached .records) = check-refused-number s v L K n x .0 in
+      let d : checkDerivation s v L .told ≡ refusedAt K x = sym (ap toldIn (check-well back-to-back s m h)) ∙ e in
+      let k : K ≡ suc ((readAll (checking v) s (fresh L)) .reached .records) = check-refused-number s v L K x d .0 in
       record {
         unread = λ z. let i : ⊥ = omega (arith, k) in absurd i;
-        read = λ z. record { accepted = k; first = check-refused-first s v L K n x };
+        read = λ z. record { accepted = k; first = check-refused-first s v L K x d };
         stays = λ z. ap memoryIn (check-well back-to-back s m h) ∙ ap₂ imageOf (check-variables s v L ∙ sym (check-variables t v L)) (check-refused-prefix s v L)
             ∙ sym (ap memoryIn (check-well back-to-back t m h));
       }
 
-  pub check-refused : CheckRefused s m K n
+  pub check-refused : CheckRefused s m K x
   check-refused = go (sized m) refl (wellFormed m) refl
     where
       checked : Outcome (Made Confirmation)
       checked = accepted (checkDerivation s (m .variables) (standingOf m))
 
-      go : (a : Bool) → sized m ≡ a → (b : Bool) → wellFormed m ≡ b → CheckRefused s m K n
-      go false h b i = unfit 1 (check-admitted backToBack s m ∙ ap (leftBy backToBack m) (not-sized backToBack m checked h))
-      go true h false i = unfit 2 (check-admitted backToBack s m ∙ ap (leftBy backToBack m) (not-formed backToBack m checked h i))
+      go : (a : Bool) → sized m ≡ a → (b : Bool) → wellFormed m ≡ b → CheckRefused s m K x
+      go false h b i = unfit (numbered 1) (check-admitted backToBack s m ∙ ap (leftBy backToBack m) (not-sized backToBack m checked h))
+      go true h false i = unfit (numbered 2) (check-admitted backToBack s m ∙ ap (leftBy backToBack m) (not-formed backToBack m checked h i))
       go true h true i = fit (of-true i)

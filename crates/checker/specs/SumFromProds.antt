@@ -53,7 +53,7 @@ module _ (r : Rule) (f g : List ℕ) (w : ℤ) (m : Memory) (e : stepIn r Signed
   taken-well = of-true (step-decided r Signed f g w m .if-taken e .1 .0)
 
   taken-directly : directStep r Signed f g w n L ≡ accepted M
-  taken-directly = direct-decided r Signed f g w n L .if-passed (step-decided r Signed f g w m .if-taken e .1 .1)
+  taken-directly = direct-decided r Signed f g w L n .if-passed (step-decided r Signed f g w m .if-taken e .1 .1)
 
   taken-image : stepIn r Signed f g w m .memory ≡ imageOf n M
   taken-image = ap (λ (l : Left (Unit {0})). l .memory) (step-decided r Signed f g w m .if-passed (step-decided r Signed f g w m .if-taken e))

@@ -1,6 +1,7 @@
 pub mod Configuration
 pub mod ConfigurationLaws
 pub mod Limits
+pub mod LimitsLaws
 pub mod LineLaws
 pub mod Made
 pub mod PlaceLaws

@@ -92,8 +92,8 @@ fits-short n L h = every-map (λ f. T (isPolynomial n f)) (λ f. length f ≤ 64
 pub within-accepted : (N M : List Line) → within N ≡ accepted M → (M ≡ N) × ((length N ≤ 128) × T (weightsFit N))
 unfolding within
 within-accepted N M e =
-    let a : _ = unless-taken (leb (length N) 128) 10 (unless (weightsFit N) 11 (accepted N)) e in
-    let b : _ = unless-taken (weightsFit N) 11 (accepted N) (a .1) in
+    let a : _ = unless-taken (leb (length N) 128) _ (unless (weightsFit N) 11 (accepted N)) e in
+    let b : _ = unless-taken (weightsFit N) _ (accepted N) (a .1) in
     (sym (same-accepted (b .1)), (leb→le (length N) 128 (of-true (a .0)), of-true (b .0)))
 
 pub accepted-within : (N : List Line) → length N ≤ 128 → T (weightsFit N) → within N ≡ accepted N

@@ -10,7 +10,7 @@ use lib.Signed.{leZ}
 use lib.ListN.{length, take}
 use Rattle.refusal.specs.Outcome.{Outcome, accepted, refused, after}
 use Rattle.refusal.specs.declared.Objection.the-variants.{Nothing, Found}
-use Rattle.refusal.specs.Refusal.{numberOf}
+use Rattle.refusal.specs.Refusal.{Refusal, numbered, refusalOf}
 use Rattle.refusal.specs.declared.Reason.{Reason}
 use Rattle.polynomial.specs.Polynomial.{ONE}
 use Rattle.configuration.specs.Configuration.{some, weight, anyNegative}
@@ -27,7 +27,7 @@ use Rattle.walk.specs.Walk as W
 
 -- a refused record leaves all as it was
 module _ (p : Progress) (fs us : List ℕ) (t : Table) (held : Held p fs us t) (reason : Reason) (r : Recorded) (e : r ≡ record { progress = p; objection = Found reason })
-    (x : Outcome (W.Progress State)) (k : x ≡ refused (numberOf reason)) where
+    (x : Outcome (W.Progress State)) (k : x ≡ refused (refusalOf reason)) where
   -- the areas may have changed, but neither the terms of the work polynomial nor the lines
   pub refused-as : (vs : List ℕ) (u : Table) → length vs ≡ 64 → take (p .work) vs ≡ take (p .work) us → Fits 128 (withLines (p .lines) u)
       → linesOf (withLines (p .lines) u) ≡ linesOf (withLines (p .lines) t) → Leaves x p fs us t r fs vs u
@@ -68,12 +68,12 @@ module _ (n : ℕ) (s : List ℕ) (p : Progress) (fs us : List ℕ) (t : Table) 
   abbrev begun : W.Progress State
   begun = progressIn p fs us t
 
-  pub term-misplaced : going (begun .state) ≡ false → onTerm n s begun ≡ refused 4
+  pub term-misplaced : going (begun .state) ≡ false → onTerm n s begun ≡ refused (numbered 4)
   term-misplaced e = rw e
 
   module _ (e : going (begun .state) ≡ true) where
-    pub term-down : (m : ℕ) → termAdded n s (p .at + 1) (take (p .work) us) ≡ refused m → onTerm n s begun ≡ refused m
-    term-down m k = rw (e, k)
+    pub term-down : (x : Refusal) → termAdded n s (p .at + 1) (take (p .work) us) ≡ refused x → onTerm n s begun ≡ refused x
+    term-down x k = rw (e, k)
 
     pub term-up : (j : ℕ) (vs : List ℕ) → termAdded n s (p .at + 1) (take (p .work) us) ≡ accepted (take j vs) → j ≤ 64 → length vs ≡ 64 → Held p fs us t
         → (r : Recorded) → r ≡ record { progress = passed p 5 (p .chosen) (p .first) j (p .lines) (p .degree); objection = Nothing }
@@ -93,11 +93,11 @@ module _ (p : Progress) (fs us : List ℕ) (t : Table) where
   abbrev here : W.Progress State
   here = progressIn p fs us t
 
-  pub choice-misplaced : going (here .state) ≡ false → onChoice here ≡ refused 4
+  pub choice-misplaced : going (here .state) ≡ false → onChoice here ≡ refused (numbered 4)
   choice-misplaced e = rw e
 
   module _ (e : going (here .state) ≡ true) where
-    pub choice-again : p .chosen ≡ true → onChoice here ≡ refused 4
+    pub choice-again : p .chosen ≡ true → onChoice here ≡ refused (numbered 4)
     choice-again k = rw (e, k)
 
     pub choice-up : p .chosen ≡ false → (gs : List ℕ) → take (p .work) gs ≡ take (p .work) us → length gs ≡ 64 → Held p fs us t
@@ -121,23 +121,23 @@ module _ (s : List ℕ) (p : Progress) (fs us : List ℕ) (t : Table) where
   abbrev pub isIdle : Bool
   isIdle = going (now .state) && (not (p .chosen) && not (some (take (p .work) us)))
 
-  pub claim-misplaced : isIdle ≡ false → onClaim s now ≡ refused 4
+  pub claim-misplaced : isIdle ≡ false → onClaim s now ≡ refused (numbered 4)
   claim-misplaced e = rw e
 
   module _ (e : isIdle ≡ true) where
-    pub claim-cut : amountIn s (p .at + 1) ≡ A.Cut → onClaim s now ≡ refused 3
+    pub claim-cut : amountIn s (p .at + 1) ≡ A.Cut → onClaim s now ≡ refused (numbered 3)
     claim-cut k = rw (e, amount-cut s (p .at + 1) k)
 
     module _ (w : ℤ) (a : amountIn s (p .at + 1) ≡ A.Whole w) where
-      pub claim-range : claimFits w ≡ false → onClaim s now ≡ refused 8
+      pub claim-range : claimFits w ≡ false → onClaim s now ≡ refused (numbered 8)
       claim-range k = rw (e, amount-whole s (p .at + 1) w a .0, amount-whole s (p .at + 1) w a .1, k)
 
       module _ (f : claimFits w ≡ true) where
-        pub claim-negative : anyNegative (now .state .lines) ≡ true → onClaim s now ≡ refused 12
+        pub claim-negative : anyNegative (now .state .lines) ≡ true → onClaim s now ≡ refused (numbered 12)
         claim-negative k = rw (e, amount-whole s (p .at + 1) w a .0, amount-whole s (p .at + 1) w a .1, f, k)
 
         module _ (m : anyNegative (now .state .lines) ≡ false) where
-          pub claim-high : leZ w (weight (now .state .lines) ONE) ≡ false → onClaim s now ≡ refused 13
+          pub claim-high : leZ w (weight (now .state .lines) ONE) ≡ false → onClaim s now ≡ refused (numbered 13)
           claim-high k = rw (e, amount-whole s (p .at + 1) w a .0, amount-whole s (p .at + 1) w a .1, f, m, k)
 
           pub claim-closed : leZ w (weight (now .state .lines) ONE) ≡ true → Held p fs us t

@@ -5,6 +5,7 @@ use mathlib.Core.List.{List}
 use Prim.Native.Nat.{ℕ}
 use lib.Dec.{eqb}
 use lib.ListN.{getD}
+use Rattle.refusal.specs.Refusal.{numbered}
 use Rattle.refusal.specs.Outcome.{Outcome, refused}
 use Rattle.calculus.specs.declared.Rule.the-variants.{Sum, Prod}
 use Rattle.calculus.specs.declared.Mode.the-variants.{Plain, Signed}
@@ -22,7 +23,7 @@ module _ (n : ℕ) (s : List ℕ) (p : Progress State) where
   onKind Choice = onChoice p
   onKind (Step r) = onStep r s p
   onKind Claim = onClaim s p
-  onKind Unknown = refused 4
+  onKind Unknown = refused (numbered 4)
 
   of-kind : onRecord n s p ≡ onKind (kindOf (getD s (p .at) 0))
   unfolding onRecord
@@ -33,7 +34,7 @@ module _ (n : ℕ) (s : List ℕ) (p : Progress State) where
 
       go : (a b c d e f g : Bool)
           → cond a (onMode Plain p) (cond b (onMode Signed p) (cond c (onTerm n s p) (cond d (onChoice p)
-          (cond e (onStep Sum s p) (cond f (onStep Prod s p) (cond g (onClaim s p) (refused 4)))))))
+          (cond e (onStep Sum s p) (cond f (onStep Prod s p) (cond g (onClaim s p) (refused (numbered 4))))))))
           ≡ onKind (cond a (Start Plain) (cond b (Start Signed) (cond c Term (cond d Choice (cond e (Step Sum) (cond f (Step Prod) (cond g Claim Unknown)))))))
       go true b c d e f g = refl
       go false true c d e f g = refl

@@ -10,7 +10,7 @@ use lib.ListN.{length}
 use Rattle.refusal.specs.Outcome.{accepted, nothing, refusedFor, Reached, after, Told}
 use Rattle.refusal.specs.OutcomeLaws.{after-accepted}
 use Rattle.refusal.specs.declared.Objection.the-variants.{Nothing, Found}
-use Rattle.refusal.specs.Refusal.{numberOf}
+use Rattle.refusal.specs.Refusal.{numbered, refusalOf}
 use Rattle.refusal.specs.declared.Reason.{Reason}
 use Rattle.configuration.specs.Configuration.{Line, isConfiguration}
 use Rattle.configuration.specs.LineLaws.{polynomial-short, polynomial-sorted, polynomial-run, configuration-parts}
@@ -91,19 +91,19 @@ module _ (n : ℕ) (s : List ℕ) (D : ℕ) (x : Reached (W.Progress State)) (p 
       fewer = omega (arith, lies .2, inv .0 .counted)
 
     module _ (reason : Reason) (k : r .objection ≡ Found reason) where
-      refusal : _≡_ {A = Reached (W.Progress State)} (record { reached = next; stop = refusedFor (numberOf reason) }) (after begun (onRecord n s begun))
+      refusal : _≡_ {A = Reached (W.Progress State)} (record { reached = next; stop = refusedFor (refusalOf reason) }) (after begun (onRecord n s begun))
       refusal = rw k at (d .0)
 
       pub refused-count : r .progress .records < length s
-      refused-count = omega (arith, ap (λ (b : W.Progress State). b .records) (unmoved (checking n) s begun next (numberOf reason) refusal), inv .0 .counted)
+      refused-count = omega (arith, ap (λ (b : W.Progress State). b .records) (unmoved (checking n) s begun next (refusalOf reason) refusal), inv .0 .counted)
 
       pub refused-there : madeIn n (withLines (r .progress .lines) t′) (toldOfCheck (Answers.Refused (r .progress .records + 1) reason)) ≡ madeBy n D x
       refused-there =
-          rw (add-one (r .progress .records)) (ap (madeBy n D) (ends-refused (checking n) s begun next (numberOf reason) refusal x (inv .0 .counted) h (inv .3)))
+          rw (add-one (r .progress .records)) (ap (madeBy n D) (ends-refused (checking n) s begun next (refusalOf reason) refusal x (inv .0 .counted) h (inv .3)))
 
   -- the end of the bytes
   pub ends-there : length s ≤ p .at → (a : CheckAnswer)
-      → toldOfCheck a ≡ W.verdict (p .records) (record { claim = p .claim; degree = p .degree }) (cond (p .closed) nothing (refusedFor 15))
+      → toldOfCheck a ≡ W.verdict (p .records) (record { claim = p .claim; degree = p .degree }) (cond (p .closed) nothing (refusedFor (numbered 15)))
       → madeIn n (withLines (p .lines) t) (toldOfCheck a) ≡ madeBy n D x
   ends-there h a e =
       ap (λ (o : Told Confirmation). madeIn n (withLines (p .lines) t) o) e

@@ -11,7 +11,7 @@ use Rattle.refusal.specs.Outcome.{Outcome, accepted, refused, Reached, after, s
 use Rattle.refusal.specs.OutcomeLaws.{after-accepted, after-refused}
 use Rattle.refusal.specs.declared.Objection.{Objection}
 use Rattle.refusal.specs.declared.Objection.the-variants.{Nothing, Found}
-use Rattle.refusal.specs.Refusal.{numberOf}
+use Rattle.refusal.specs.Refusal.{numbered, refusalOf}
 use Rattle.refusal.specs.declared.Reason.{Reason}
 use Rattle.configuration.specs.Configuration.{Line}
 use Rattle.table.specs.Rows.{withLines, Table, linesOf, Fits}
@@ -40,28 +40,28 @@ module _ (s : List ℕ) (p : Progress) (fs us : List ℕ) (t : Table) (r : Rule)
   abbrev stepping : ℤ → Outcome (List Line)
   stepping w = C.step r (p .mode) (take (p .first) fs) (take (p .work) us) w old
 
-  pub step-misplaced : going (begun .state) ≡ false → onStep r s begun ≡ refused 4
+  pub step-misplaced : going (begun .state) ≡ false → onStep r s begun ≡ refused (numbered 4)
   step-misplaced e = rw e
 
   module _ (e : going (begun .state) ≡ true) where
-    pub step-unset : p .chosen ≡ false → onStep r s begun ≡ refused 4
+    pub step-unset : p .chosen ≡ false → onStep r s begun ≡ refused (numbered 4)
     step-unset k = rw (e, k)
 
     module _ (k : p .chosen ≡ true) where
-      pub step-cut : amountIn s (p .at + 1) ≡ A.Cut → onStep r s begun ≡ refused 3
+      pub step-cut : amountIn s (p .at + 1) ≡ A.Cut → onStep r s begun ≡ refused (numbered 3)
       step-cut a = rw (e, k, amount-cut s (p .at + 1) a)
 
       module _ (w : ℤ) (a : amountIn s (p .at + 1) ≡ A.Whole w) (held : Held p fs us t) (j : ℕ) (u : Table) (fits : Fits 128 (withLines j u)) (o : Objection)
           (d : _≡_ {A = Reached (List Line)} (record { reached = linesOf (withLines j u); stop = stopOf o }) (after old (stepping w))) where
         -- refused: the lines are those that were there, and as many
         module _ (reason : Reason) (f : o ≡ Found reason) where
-          unmoved : (stepping w ≡ refused (numberOf reason)) × (linesOf (withLines j u) ≡ old)
-          unmoved = after-refused old (linesOf (withLines j u)) (numberOf reason) (stepping w) (rw f at d)
+          unmoved : (stepping w ≡ refused (refusalOf reason)) × (linesOf (withLines j u) ≡ old)
+          unmoved = after-refused old (linesOf (withLines j u)) (refusalOf reason) (stepping w) (rw f at d)
 
           as-many : j ≡ p .lines
           as-many = sym (length-lines fits) ∙ ap length (unmoved .1) ∙ length-lines (held .fits)
 
-          step-down : onStep r s begun ≡ refused (numberOf reason)
+          step-down : onStep r s begun ≡ refused (refusalOf reason)
           step-down = rw (e, k, amount-whole s (p .at + 1) w a .0, amount-whole s (p .at + 1) w a .1, unmoved .0)
 
           pub step-refused : (q : Recorded) → q ≡ record { progress = p; objection = Found reason }

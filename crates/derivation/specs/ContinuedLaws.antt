@@ -34,7 +34,7 @@ longer n s t (suc k) (suc j) p h = go (leb (length s) (p .at)) refl (onRecord n 
     go false a (accepted q) e rest =
         let l : p .at < length (s ++ t) = omega (arith, nleb→lt (length s) (p .at) (rw a tt), length-append s t) in
         rw (gathers (checking n) leftAfter j (s ++ t) p q l (record-more n s t p q e)) (omega (arith, rest q))
-    go false a (refused m) e rest = omega arith
+    go false a (refused y) e rest = omega arith
 
 -- whatever the bytes are
 pub continued-degree : (s t : List ℕ) (n : ℕ) (L : List Line) → derivationDegree s n L ≤ derivationDegree (s ++ t) n L
@@ -82,7 +82,7 @@ none-met n s (suc k) p b c = go (leb (length s) (p .at)) (onRecord n s p) refl
     go : (b : Bool) (r : Outcome (Progress State)) → onRecord n s p ≡ r → cond b [] (onward (λ q. leftAfter s p q ++ gathered (checking n) leftAfter k s q) r) ≡ []
     go true r e = refl
     go false (accepted q) e = absurd (none-follows n s p q b c e)
-    go false (refused m) e = refl
+    go false (refused y) e = refl
 
 -- ---- bytes that end with 9 more, where a claim is reached
 module _ (n : ℕ) (s c : List ℕ) (l : length c ≡ 9) where
@@ -142,7 +142,7 @@ module _ (n : ℕ) (s c : List ℕ) (l : length c ≡ 9) where
           → largest degreeIn (cond b [] (onward (λ q. leftAfter all p q ++ gathered (checking n) leftAfter k all q) r)) ≤ max (degreeIn (p .state .lines)) (degreeAhead n j s p)
       go true r e v rest = omega arith
       go false (accepted q) e v rest = one-more k j p q h e (claim-or-not n all p q e) o v (λ i m u. rest q i m u v)
-      go false (refused m) e v rest = omega arith
+      go false (refused y) e v rest = omega arith
 
 pub claim-degree : (s c : List ℕ) (n : ℕ) (L : List Line) → length c ≡ 9 → T (reached (s ++ c) n L .closed) → derivationDegree (s ++ c) n L ≡ derivationDegree s n L
 unfolding derivationDegree largest

@@ -12,7 +12,7 @@ use Rattle.polynomial.specs.Polynomial.{ZERO, ONE}
 use Rattle.configuration.specs.Weight.{limit}
 use Rattle.configuration.specs.Configuration.{Line, polynomialOf, some, weight, anyNegative}
 use Rattle.configuration.specs.Made.{Made}
-use Rattle.refusal.specs.Refusal.{numberOf}
+use Rattle.refusal.specs.Refusal.{numbered, refusalOf}
 use Rattle.calculus.specs.Calculus.{step}
 use Rattle.calculus.specs.declared.Rule.{Rule}
 use Rattle.calculus.specs.declared.Rule.the-variants.{Sum, Prod}
@@ -132,7 +132,7 @@ onRecord n s p =
     (cond (eqb kind letterS) (onStep Sum s p)
     (cond (eqb kind letterP) (onStep Prod s p)
     (cond (eqb kind letterB) (onClaim s p)
-    (refused 4)))))))
+    (refused (numbered 4))))))))
 
 -- at the end of the bytes B must have come
 abbrev pub checking : ℕ → Reader State
@@ -182,4 +182,4 @@ checkDerivation s n L =
 -- the paper's words for an answer
 abbrev pub toldOfCheck : CheckAnswer → Told Confirmation
 toldOfCheck (Confirmed w d) = confirmed w d
-toldOfCheck (Refused k reason) = refusedAt k (numberOf reason)
+toldOfCheck (Refused k reason) = refusedAt k (refusalOf reason)

@@ -10,6 +10,7 @@ use lib.IntN.{ℤ, pos, negsuc}
 use lib.Signed.{_≤ℤ_, leZ, leZ-yes}
 use lib.ListN.{length, getD}
 use borrow.Author.Tests.{not-true}
+use Rattle.refusal.specs.Refusal.{Refusal, numbered}
 use Rattle.refusal.specs.Outcome.{Outcome, accepted, refused, Stop, nothing, refusedFor, Reached}
 use Rattle.run.specs.BooleanLaws.{is-true}
 use Rattle.polynomial.specs.Polynomial.{ZERO, ONE}
@@ -40,7 +41,7 @@ within-bytes (b ∷ s) zero k h e = omega arith
 within-bytes (b ∷ s) (suc i) k h e = omega (arith, within-bytes s i k h e)
 
 module _ (n : ℕ) (s : List ℕ) (p : Progress State) (P : Outcome (Progress State) → Type 0) where
-  pub record-ind : ((k : ℕ) → P (refused k))
+  pub record-ind : ((x : Refusal) → P (refused x))
       → ((d : Mode) → p .at < length s → T (not (p .state .started)) → P (accepted (past p 1 (begins d (p .state)))))
       → ((g : List ℕ) → T (going (p .state)) → termAdded n s (p .at + 1) (p .state .work) ≡ accepted g
       → P (accepted (past p 5 (having (p .state .chosen) (p .state .first) g (p .state .lines) (p .state)))))
@@ -67,27 +68,27 @@ module _ (n : ℕ) (s : List ℕ) (p : Progress State) (P : Outcome (Progress St
       w = signedAt s (p .at + 1)
 
       modes : (d : Mode) → p .at < length s → P (onMode d p)
-      modes d l = unless-ind P (not (x .started)) 4 nay (λ h. yeaMode d l h)
+      modes d l = unless-ind P (not (x .started)) _ nay (λ h. yeaMode d l h)
 
       terms : P (onTerm n s p)
-      terms = unless-ind P (going x) 4 nay (λ h.
+      terms = unless-ind P (going x) _ nay (λ h.
           mapped-ind P (λ g. past p 5 (having (x .chosen) (x .first) g (x .lines) x)) (termAdded n s (p .at + 1) (x .work)) nay (λ g e. yeaTerm g h e))
 
       choices : p .at < length s → P (onChoice p)
-      choices l = unless-ind P (going x && not (x .chosen)) 4 nay (λ h. yeaChoice l h)
+      choices l = unless-ind P (going x && not (x .chosen)) _ nay (λ h. yeaChoice l h)
 
       steps : (r : Rule) → P (onStep r s p)
-      steps r = unless-ind P (going x && x .chosen) 4 nay (λ h. unless-ind P (whole 8 s (p .at + 1)) 3 nay (λ i.
+      steps r = unless-ind P (going x && x .chosen) _ nay (λ h. unless-ind P (whole 8 s (p .at + 1)) _ nay (λ i.
           mapped-ind P (λ L. past p 9 (having false ZERO ZERO L x)) (step r (x .mode) (x .first) (x .work) w (x .lines)) nay (λ L e. yeaStep r L h i e)))
 
       claims : P (onClaim s p)
-      claims = unless-ind P (going x && (not (x .chosen) && not (some (x .work)))) 4 nay (λ h. unless-ind P (whole 8 s (p .at + 1)) 3 nay (λ i.
-          unless-ind P (claimFits w) 8 nay (λ j. unless-ind P (not (anyNegative (x .lines))) 12 nay (λ k.
-          unless-ind P (leZ w (weight (x .lines) ONE)) 13 nay (λ l. yeaClaim w h i j k l)))))
+      claims = unless-ind P (going x && (not (x .chosen) && not (some (x .work)))) _ nay (λ h. unless-ind P (whole 8 s (p .at + 1)) _ nay (λ i.
+          unless-ind P (claimFits w) _ nay (λ j. unless-ind P (not (anyNegative (x .lines))) _ nay (λ k.
+          unless-ind P (leZ w (weight (x .lines) ONE)) _ nay (λ l. yeaClaim w h i j k l)))))
 
       go : (a b c d e f g : Bool) → (T a → p .at < length s) → (T b → p .at < length s) → (T d → p .at < length s)
           → P (cond a (onMode Plain p) (cond b (onMode Signed p) (cond c (onTerm n s p) (cond d (onChoice p)
-          (cond e (onStep Sum s p) (cond f (onStep Prod s p) (cond g (onClaim s p) (refused 4))))))))
+          (cond e (onStep Sum s p) (cond f (onStep Prod s p) (cond g (onClaim s p) (refused (numbered 4)))))))))
       go true b c d e f g hn hz hk = modes Plain (hn tt)
       go false true c d e f g hn hz hk = modes Signed (hz tt)
       go false false true d e f g hn hz hk = terms
@@ -95,7 +96,7 @@ module _ (n : ℕ) (s : List ℕ) (p : Progress State) (P : Outcome (Progress St
       go false false false false true f g hn hz hk = steps Sum
       go false false false false false true g hn hz hk = steps Prod
       go false false false false false false true hn hz hk = claims
-      go false false false false false false false hn hz hk = nay 4
+      go false false false false false false false hn hz hk = nay (numbered 4)
 
 -- ---- what holds at every progress of a check over n variables
 pub record Sound (n : ℕ) (x : State) : Type 0 where
@@ -187,7 +188,7 @@ check-cost s n L α = ap (λ (M : List Line). cost M α) (check-lines s n L)
 -- ---- what a confirmation says
 confirmed-stop : (k : ℕ) (c : Confirmation) (t : Stop) (w : ℤ) (D : ℕ) → verdict k c t ≡ confirmed w D → (t ≡ nothing) × (w ≡ c .claim) × (D ≡ c .degree)
 confirmed-stop k c nothing w D e = (refl, cc, cc)
-confirmed-stop k c (refusedFor n) w D e = let z : _≡_ {A = ℕ} 0 1 = cc in let x : ⊥ = omega arith in absurd x
+confirmed-stop k c (refusedFor x) w D e = let z : _≡_ {A = ℕ} 0 1 = cc in let i : ⊥ = omega arith in absurd i
 
 ≤ℤ-trans : (a b c : ℤ) → a ≤ℤ b → b ≤ℤ c → a ≤ℤ c
 ≤ℤ-trans a b c h k = leZ-yes (go a b c (h .le) (k .le))

@@ -10,6 +10,7 @@ use lib.IntN.{ℤ}
 use lib.Signed.{leZ}
 use lib.ListN.{length, getD, take, length-append}
 use lib.Seq.{getD-take, take-append-seam}
+use Rattle.refusal.specs.Refusal.{Refusal, numbered}
 use Rattle.refusal.specs.Outcome.{Outcome, accepted, refused, unless, mapped, refusedFor, refusedAt}
 use Rattle.polynomial.specs.Polynomial.{ZERO, ONE}
 use Rattle.configuration.specs.Configuration.{Line, some, weight, anyNegative}
@@ -21,7 +22,7 @@ use Rattle.calculus.specs.declared.Mode.the-variants.{Plain, Signed}
 use Rattle.record.specs.Letters.{letterN, letterZ, letterM, letterK, letterS, letterP, letterB}
 use Rattle.record.specs.Record.{whole, numberAt, signed}
 use Rattle.record.specs.RecordLaws.{number-take, whole-take}
-use Rattle.walk.specs.Walk.{Progress, begun, past, over, walk, Refusal, acceptedBytes}
+use Rattle.walk.specs.Walk.{Progress, begun, past, over, walk, RefusedNext, acceptedBytes}
 use Rattle.walk.specs.Work.{termAdded}
 use Rattle.walk.specs.WalkLaws.{told-refused, unless-ind, mapped-ind, IfAccepted, Ends, same-outcome, Local, refused-record, turns-records, records-prefix}
 use Rattle.walk.specs.WorkLaws.{term-inside, term-take}
@@ -65,14 +66,14 @@ module _ (n : ℕ) (s : List ℕ) (p : Progress State) where
   ends-term =
       let x : State = p .state in
       let E : Outcome (Progress State) → Type 0 = Ends (p .at + 5) in
-      unless-ind E (going x) 4 (λ k. tt) (λ h.
+      unless-ind E (going x) _ (λ k. tt) (λ h.
       mapped-ind E (λ g. past p 5 (having (x .chosen) (x .first) g (x .lines) x)) (termAdded n s (p .at + 1) (x .work)) (λ k. tt) (λ g e. refl))
 
   ends-step : (r : Rule) → Ends (p .at + 9) (onStep r s p)
   ends-step r =
       let x : State = p .state in
       let E : Outcome (Progress State) → Type 0 = Ends (p .at + 9) in
-      unless-ind E (going x && x .chosen) 4 (λ k. tt) (λ h. unless-ind E (whole 8 s (p .at + 1)) 3 (λ k. tt) (λ i.
+      unless-ind E (going x && x .chosen) _ (λ k. tt) (λ h. unless-ind E (whole 8 s (p .at + 1)) _ (λ k. tt) (λ i.
       mapped-ind E (λ L. past p 9 (having false ZERO ZERO L x)) (step r (x .mode) (x .first) (x .work) (signed (numberAt 8 s (p .at + 1))) (x .lines)) (λ k. tt) (λ L e. refl)))
 
   ends-claim : Ends (p .at + 9) (onClaim s p)
@@ -80,10 +81,10 @@ module _ (n : ℕ) (s : List ℕ) (p : Progress State) where
       let x : State = p .state in
       let w : ℤ = signed (numberAt 8 s (p .at + 1)) in
       let E : Outcome (Progress State) → Type 0 = Ends (p .at + 9) in
-      unless-ind E (going x && (not (x .chosen) && not (some (x .work)))) 4 (λ k. tt) (λ a.
-      unless-ind E (whole 8 s (p .at + 1)) 3 (λ k. tt) (λ b. unless-ind E (claimFits w) 8 (λ k. tt) (λ c.
-      unless-ind E (not (anyNegative (x .lines))) 12 (λ k. tt) (λ d.
-      unless-ind E (leZ w (weight (x .lines) ONE)) 13 (λ k. tt) (λ e. refl)))))
+      unless-ind E (going x && (not (x .chosen) && not (some (x .work)))) _ (λ k. tt) (λ a.
+      unless-ind E (whole 8 s (p .at + 1)) _ (λ k. tt) (λ b. unless-ind E (claimFits w) _ (λ k. tt) (λ c.
+      unless-ind E (not (anyNegative (x .lines))) _ (λ k. tt) (λ d.
+      unless-ind E (leZ w (weight (x .lines) ONE)) _ (λ k. tt) (λ e. refl)))))
 
 -- in two lists of bytes each kind of record at a progress is the same, where it ends at K or before
 record SameUpTo (n : ℕ) (p : Progress State) (K : ℕ) (s z : List ℕ) : Type 0 where
@@ -106,9 +107,9 @@ same-record n p q K s z both h e =
   where
     go : (a b c d i j k : Bool)
         → cond a (onMode Plain p) (cond b (onMode Signed p) (cond c (onTerm n s p) (cond d (onChoice p)
-        (cond i (onStep Sum s p) (cond j (onStep Prod s p) (cond k (onClaim s p) (refused 4))))))) ≡ accepted q
+        (cond i (onStep Sum s p) (cond j (onStep Prod s p) (cond k (onClaim s p) (refused (numbered 4)))))))) ≡ accepted q
         → cond a (onMode Plain p) (cond b (onMode Signed p) (cond c (onTerm n z p) (cond d (onChoice p)
-        (cond i (onStep Sum z p) (cond j (onStep Prod z p) (cond k (onClaim z p) (refused 4))))))) ≡ accepted q
+        (cond i (onStep Sum z p) (cond j (onStep Prod z p) (cond k (onClaim z p) (refused (numbered 4)))))))) ≡ accepted q
     go true b c d i j k f = f
     go false true c d i j k f = f
     go false false true d i j k f = same-outcome (p .at + 5) K (onTerm n s p) (onTerm n z p) q (ends-term n s p) (both .terms) h f
@@ -149,15 +150,15 @@ check-prefix s n L k =
     let z : List ℕ = take (reachedIn k s n L .at) s in
     check-is z n L ∙ ap (madeBy n (derivationDegree z n L)) (records-prefix (checking n) (checking-local n) k s (fresh L))
 
-module _ (s : List ℕ) (n : ℕ) (L : List Line) (K k : ℕ) (e : checkDerivation s n L .told ≡ refusedAt K k) where
+module _ (s : List ℕ) (n : ℕ) (L : List Line) (K : ℕ) (x : Refusal) (e : checkDerivation s n L .told ≡ refusedAt K x) where
   -- it names the record after the accepted ones
-  pub check-refused-number : (K ≡ suc ((walked s n L) .reached .records)) × ((walked s n L) .stop ≡ refusedFor k)
+  pub check-refused-number : (K ≡ suc ((walked s n L) .reached .records)) × ((walked s n L) .stop ≡ refusedFor x)
   check-refused-number =
-      told-refused ((walked s n L) .reached .records) _ ((walked s n L) .stop) K k (sym (ap (λ (m : Made Confirmation). m .told) (check-is s n L)) ∙ e)
+      told-refused ((walked s n L) .reached .records) _ ((walked s n L) .stop) K x (sym (ap (λ (m : Made Confirmation). m .told) (check-is s n L)) ∙ e)
 
   -- the reason is that of the first record that is not accepted, or that the bytes end without a claim
-  pub check-refused-first : Refusal (checking n) s ((walked s n L) .reached) k
-  check-refused-first = refused-record (checking n) (checking-local n) (length s) s (begun (fresh L)) k (omega arith) (check-refused-number .1)
+  pub check-refused-first : RefusedNext (checking n) s ((walked s n L) .reached) x
+  check-refused-first = refused-record (checking n) (checking-local n) (length s) s (begun (fresh L)) x (omega arith) (check-refused-number .1)
 
 -- refused or not, the lines are those that checking the bytes of the accepted records leaves
 pub check-refused-prefix : (s : List ℕ) (n : ℕ) (L : List Line) → checkDerivation s n L .lines ≡ checkDerivation (acceptedBytes (checking n) s (fresh L)) n L .lines

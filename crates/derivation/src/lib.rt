@@ -19,6 +19,7 @@ ghost use mathlib.Core.Bool.{cond};
 ghost use Prim.Native.Nat.{_<_};
 ghost use lib.Dec.{T};
 ghost use lib.ListN.{length};
+ghost use Rattle.refusal.specs.Refusal.{numbered};
 ghost use Rattle.refusal.specs.Outcome.{nothing, refusedFor};
 ghost use Rattle.configuration.specs.Configuration.{isConfiguration};
 ghost use Rattle.table.specs.Rows.{tableAt, tableBefore, tableAfter, linesOf, Fits, madeIn};
@@ -120,7 +121,8 @@ fn on_record(
 // The end of the bytes: B must have come. It is for `check_derivation`.
 fn finish(p: Progress) -> CheckAnswer
     requires { ⌜ p .records < 18446744073709551615 ⌝ }
-    ensures { λ r. ⌜ toldOfCheck r ≡ verdict (p .records) (record { claim = p .claim; degree = p .degree }) (cond (p .closed) nothing (refusedFor 15)) ⌝ }
+    ensures { λ r. ⌜ toldOfCheck r ≡ verdict (p .records) (record { claim = p .claim; degree = p .degree })
+        (cond (p .closed) nothing (refusedFor (numbered 15))) ⌝ }
 {
     if !p.closed {
         return CheckAnswer::Refused(p.records + 1, Reason::Unfinished);

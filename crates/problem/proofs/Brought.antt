@@ -12,7 +12,7 @@ use Rattle.refusal.specs.Outcome.{Outcome, accepted, refused, Reached, after, s
 use Rattle.refusal.specs.OutcomeLaws.{after-accepted, after-refused}
 use Rattle.refusal.specs.declared.Objection.{Objection}
 use Rattle.refusal.specs.declared.Objection.the-variants.{Nothing, Found}
-use Rattle.refusal.specs.Refusal.{numberOf}
+use Rattle.refusal.specs.Refusal.{refusalOf}
 use Rattle.refusal.specs.declared.Reason.{Reason}
 use Rattle.configuration.specs.Weight.{isZero}
 use Rattle.configuration.specs.Configuration.{Line, add}
@@ -40,7 +40,7 @@ not-zero (negsuc n) h = absurd h
 -- ---- what is read
 module _ (on : W.Progress State → Outcome (W.Progress State)) (p : Progress) (size left : ℕ) (f : List ℕ → List ℕ) (w : ℤ) (o : Objection) where
   -- something is found
-  pub found : (reason : Reason) → o ≡ Found reason → ((us : List ℕ) (t : Table) → refused (numberOf reason) ≡ on (progressIn p us t))
+  pub found : (reason : Reason) → o ≡ Found reason → ((us : List ℕ) (t : Table) → refused (refusalOf reason) ≡ on (progressIn p us t))
       → Brings on p size left f w o × (o ≡ Nothing → T (weightFits w))
   found reason e k = (
     λ us t. sym (k us t) ∙ ap (λ (o : Objection). objected o (folded (progressIn p us t) size (take left us) (within (add (f us) w (progressIn p us t .state .lines))))) (sym e),
@@ -48,7 +48,7 @@ module _ (on : W.Progress State → Outcome (W.Progress State)) (p : Progress) (
   )
 
   module _ (b : Brings on p size left f w o) (us : List ℕ) (t : Table) where
-    pub brings-found : (reason : Reason) → o ≡ Found reason → refused (numberOf reason) ≡ on (progressIn p us t)
+    pub brings-found : (reason : Reason) → o ≡ Found reason → refused (refusalOf reason) ≡ on (progressIn p us t)
     brings-found reason e = sym (rw e at (b us t))
 
     abbrev old : List Line
@@ -80,7 +80,7 @@ module _ (on : W.Progress State → Outcome (W.Progress State)) (p : Progress) (
               )
           go (Found reason) c =
               let i : r ≡ unlessFound p size d left (Found reason) = g ∙ ap (unlessFound p size d left) c in
-              let a : _ = after-refused old (linesOf (withLines d u)) (numberOf reason) (within new) (rw c at e) in
+              let a : _ = after-refused old (linesOf (withLines d u)) (refusalOf reason) (within new) (rw c at e) in
               let many : d ≡ p .lines = sym (length-lines fits) ∙ ap length (a .1) ∙ length-lines (held .fits) in
               let kept : linesOf (withLines (p .lines) u) ≡ old = ap (λ (n : ℕ). linesOf (withLines n u)) (sym many) ∙ a .1 in (
                 ap (λ (z : Recorded). leftIn z us u) i ∙ rw (on-is, a .0, kept),

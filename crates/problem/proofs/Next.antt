@@ -9,7 +9,7 @@ use lib.ListN.{length, take}
 use Rattle.refusal.specs.Outcome.{Outcome, accepted, refused, Reached, after, stopOf}
 use Rattle.refusal.specs.declared.Objection.{Objection}
 use Rattle.refusal.specs.declared.Objection.the-variants.{Nothing, Found}
-use Rattle.refusal.specs.Refusal.{numberOf}
+use Rattle.refusal.specs.Refusal.{refusalOf}
 use Rattle.refusal.specs.declared.Reason.{Reason}
 use Rattle.table.specs.Rows.{withLines, Table, Fits}
 use Rattle.walk.specs.Walk.{past}
@@ -32,7 +32,7 @@ tableIn is ts ws cs = record { lines = 0; order = is; terms = ts; weights = ws; 
 
 -- ---- a refused record leaves all as it was
 pub refused-does : (on : W.Progress State → Outcome (W.Progress State)) (p : Progress) (us : List ℕ) (t : Table) (r : Recorded) (reason : Reason)
-    → r ≡ record { progress = p; objection = Found reason } → refused (numberOf reason) ≡ on (progressIn p us t) → Does on p us t r us t
+    → r ≡ record { progress = p; objection = Found reason } → refused (refusalOf reason) ≡ on (progressIn p us t) → Does on p us t r us t
 refused-does on p us t r reason e k h = (
   ap (λ (x : Recorded). leftIn x us t) e ∙ ap (after (progressIn p us t)) k,
   subst (λ (x : Recorded). Held (x .progress) us t) (sym e) h,
@@ -87,6 +87,6 @@ module _ (s : List ℕ) (p : Progress) (us vs : List ℕ) (w : Work)
           let g : r ≡ unlessFound p 5 (p .lines) (w .count) (Found reason) = e ∙ ap (unlessFound p 5 (p .lines) (w .count)) k in
           let same : take (p .work) vs ≡ take (p .work) us = term-unmoved n s (p .at + 1) us (p .work) vs w sum reason k (h .area) (h .room) area room in (
             ap (λ (x : Recorded). leftIn x vs t) g
-                ∙ rw same (ap (after q) (term-not s q started (numberOf reason) (term-refused n s (p .at + 1) us (p .work) vs w sum reason k))),
+                ∙ rw same (ap (after q) (term-not s q started (refusalOf reason) (term-refused n s (p .at + 1) us (p .work) vs w sum reason k))),
             subst (λ (x : Recorded). Held (x .progress) vs t) (sym g) (record { fits = h .fits; area = area; room = h .room; counted = h .counted }),
           )

@@ -1,19 +1,20 @@
 -- What each record does, by the tests that it fails or passes in their order, as code has found them.
 use mathlib.Core.Path.{_≡_, refl, sym, ap, ap₂, _∙_}
 use mathlib.Core.Bool.{Bool, true, false, cond, not, _&&_}
-use mathlib.Core.List.{List, []}
+use mathlib.Core.List.{List, [], _∷_}
 use Prim.Native.Nat.{ℕ, suc, _+_, _^_, _≤_, _<_}
 use native.Mathlib.Omega.{arith}
 use lib.Dec.{leb, ltb}
 use lib.IntN.{ℤ}
 use lib.ListN.{length, getD}
 use borrow.Author.Tests.{lt-leb, le-leb, ne-eqb}
-use Rattle.refusal.specs.Outcome.{Outcome, accepted, refused, unless, mapped, nothing, refusedFor, Told, refusedAt}
+use Rattle.refusal.specs.Refusal.{Refusal, numbered, tooLong}
+use Rattle.refusal.specs.Outcome.{Outcome, accepted, refused, unless, passing, mapped, nothing, refusedFor, Told, refusedAt}
 use Rattle.refusal.specs.OutcomeLaws.{unless-fails, unless-passes}
 use Rattle.polynomial.specs.Polynomial.{clauseOf, termsOf, measuredOf}
 use Rattle.polynomial.specs.declared.Measured.{Measured}
 use Rattle.configuration.specs.Configuration.{add}
-use Rattle.configuration.specs.Limits.{within}
+use Rattle.configuration.specs.Limits.{short, within}
 use Rattle.record.specs.Letters.{letterV, letterM, letterW, letterC}
 use Rattle.record.specs.Record.{whole, numberAt, signedAt, byteIn, amountIn, clauseIn}
 use Rattle.walk.specs.Walk.{Progress, past, verdict}
@@ -27,37 +28,37 @@ use Rattle.record.specs.declared.Clause.the-variants as C
 
 -- ---- out of place
 module _ (s : List ℕ) (q : Progress State) where
-  pub second : q .state .started ≡ true → refused 4 ≡ onVariables s q
-  second e = unless-fails (not (q .state .started)) 4 _ (ap not e)
+  pub second : q .state .started ≡ true → refused (numbered 4) ≡ onVariables s q
+  second e = unless-fails (not (q .state .started)) _ _ (ap not e)
 
   module _ (e : q .state .started ≡ false) where
-    pub term-early : refused 4 ≡ onTerm s q
-    term-early = unless-fails (q .state .started) 4 _ e
+    pub term-early : refused (numbered 4) ≡ onTerm s q
+    term-early = unless-fails (q .state .started) _ _ e
 
-    pub weight-early : refused 4 ≡ onWeight s q
-    weight-early = unless-fails (q .state .started) 4 _ e
+    pub weight-early : refused (numbered 4) ≡ onWeight s q
+    weight-early = unless-fails (q .state .started) _ _ e
 
-    pub clause-early : refused 4 ≡ onClause s q
-    clause-early = unless-fails (q .state .started) 4 _ e
+    pub clause-early : refused (numbered 4) ≡ onClause s q
+    clause-early = unless-fails (q .state .started) _ _ e
 
 -- ---- V
 module _ (s : List ℕ) (q : Progress State) (e : q .state .started ≡ false) where
-  pub variables-cut : byteIn s (q .at + 1) ≡ B.Cut → refused 3 ≡ onVariables s q
-  variables-cut k = unless-passes (not (q .state .started)) 4 _ _ (ap not e) (unless-fails (whole 1 s (q .at + 1)) 3 _ (byte-cut s (q .at + 1) k))
+  pub variables-cut : byteIn s (q .at + 1) ≡ B.Cut → refused (numbered 3) ≡ onVariables s q
+  variables-cut k = unless-passes (not (q .state .started)) _ _ _ (ap not e) (unless-fails (whole 1 s (q .at + 1)) _ _ (byte-cut s (q .at + 1) k))
 
   module _ (v : ℕ) (k : byteIn s (q .at + 1) ≡ B.Whole v) where
     read : (whole 1 s (q .at + 1) ≡ true) × (numberAt 1 s (q .at + 1) ≡ v)
     read = byte-whole s (q .at + 1) v k
 
-    pub too-many : 32 < v → refused 5 ≡ onVariables s q
+    pub too-many : 32 < v → refused (numbered 5) ≡ onVariables s q
     too-many l =
-        unless-passes (not (q .state .started)) 4 _ _ (ap not e) (unless-passes (whole 1 s (q .at + 1)) 3 _ _ (read .0)
-        (unless-fails (leb (numberAt 1 s (q .at + 1)) 32) 5 _ (lt-leb (numberAt 1 s (q .at + 1)) 32 (rw (read .1) l))))
+        unless-passes (not (q .state .started)) _ _ _ (ap not e) (unless-passes (whole 1 s (q .at + 1)) _ _ _ (read .0)
+        (unless-fails (leb (numberAt 1 s (q .at + 1)) 32) _ _ (lt-leb (numberAt 1 s (q .at + 1)) 32 (rw (read .1) l))))
 
     pub variables-set : v ≤ 32 → accepted (past q 2 (record { started = true; variables = v; work = []; lines = [] })) ≡ onVariables s q
     variables-set l =
-        unless-passes (not (q .state .started)) 4 _ _ (ap not e) (unless-passes (whole 1 s (q .at + 1)) 3 _ _ (read .0)
-        (unless-passes (leb (numberAt 1 s (q .at + 1)) 32) 5 _ _ (le-leb (numberAt 1 s (q .at + 1)) 32 (rw (read .1) l))
+        unless-passes (not (q .state .started)) _ _ _ (ap not e) (unless-passes (whole 1 s (q .at + 1)) _ _ _ (read .0)
+        (unless-passes (leb (numberAt 1 s (q .at + 1)) 32) _ _ _ (le-leb (numberAt 1 s (q .at + 1)) 32 (rw (read .1) l))
         (ap (λ (n : ℕ). accepted (past q 2 (record { started = true; variables = n; work = []; lines = [] }))) (sym (read .1)))))
 
 -- ---- M
@@ -68,34 +69,34 @@ module _ (s : List ℕ) (q : Progress State) (e : q .state .started ≡ true) wh
   abbrev with-work : List ℕ → Progress State
   with-work f = past q 5 (having f (q .state .lines) (q .state))
 
-  pub term-not : (n : ℕ) → sum ≡ refused n → refused n ≡ onTerm s q
-  term-not n k = unless-passes (q .state .started) 4 _ _ e (ap (mapped with-work) (sym k))
+  pub term-not : (x : Refusal) → sum ≡ refused x → refused x ≡ onTerm s q
+  term-not x k = unless-passes (q .state .started) _ _ _ e (ap (mapped with-work) (sym k))
 
   pub term-kept : (g : List ℕ) → sum ≡ accepted g → accepted (with-work g) ≡ onTerm s q
-  term-kept g k = unless-passes (q .state .started) 4 _ _ e (ap (mapped with-work) (sym k))
+  term-kept g k = unless-passes (q .state .started) _ _ _ e (ap (mapped with-work) (sym k))
 
   -- ---- W
-  pub weight-cut : amountIn s (q .at + 1) ≡ A.Cut → refused 3 ≡ onWeight s q
-  weight-cut k = unless-passes (q .state .started) 4 _ _ e (unless-fails (whole 8 s (q .at + 1)) 3 _ (amount-cut s (q .at + 1) k))
+  pub weight-cut : amountIn s (q .at + 1) ≡ A.Cut → refused (numbered 3) ≡ onWeight s q
+  weight-cut k = unless-passes (q .state .started) _ _ _ e (unless-fails (whole 8 s (q .at + 1)) _ _ (amount-cut s (q .at + 1) k))
 
   module _ (v : ℤ) (k : amountIn s (q .at + 1) ≡ A.Whole v) where
     amount-read : (whole 8 s (q .at + 1) ≡ true) × (signedAt s (q .at + 1) ≡ v)
     amount-read = amount-whole s (q .at + 1) v k
 
-    pub weight-out : weightFits v ≡ false → refused 8 ≡ onWeight s q
+    pub weight-out : weightFits v ≡ false → refused (numbered 8) ≡ onWeight s q
     weight-out l =
-        unless-passes (q .state .started) 4 _ _ e (unless-passes (whole 8 s (q .at + 1)) 3 _ _ (amount-read .0)
-        (unless-fails (weightFits (signedAt s (q .at + 1))) 8 _ (ap weightFits (amount-read .1) ∙ l)))
+        unless-passes (q .state .started) _ _ _ e (unless-passes (whole 8 s (q .at + 1)) _ _ _ (amount-read .0)
+        (unless-fails (weightFits (signedAt s (q .at + 1))) _ _ (ap weightFits (amount-read .1) ∙ l)))
 
     pub weight-in : weightFits v ≡ true → folded q 9 [] (within (add (q .state .work) v (q .state .lines))) ≡ onWeight s q
     weight-in l =
-        unless-passes (q .state .started) 4 _ _ e (unless-passes (whole 8 s (q .at + 1)) 3 _ _ (amount-read .0)
-        (unless-passes (weightFits (signedAt s (q .at + 1))) 8 _ _ (ap weightFits (amount-read .1) ∙ l)
+        unless-passes (q .state .started) _ _ _ e (unless-passes (whole 8 s (q .at + 1)) _ _ _ (amount-read .0)
+        (unless-passes (weightFits (signedAt s (q .at + 1))) _ _ _ (ap weightFits (amount-read .1) ∙ l)
         (ap (λ (w : ℤ). folded q 9 [] (within (add (q .state .work) w (q .state .lines)))) (sym (amount-read .1)))))
 
   -- ---- C
-  pub clause-short : clauseIn s (q .at + 1) ≡ C.Cut → refused 3 ≡ onClause s q
-  clause-short k = unless-passes (q .state .started) 4 _ _ e (unless-fails (whole 16 s (q .at + 1)) 3 _ (clause-cut s (q .at + 1) k))
+  pub clause-short : clauseIn s (q .at + 1) ≡ C.Cut → refused (numbered 3) ≡ onClause s q
+  clause-short k = unless-passes (q .state .started) _ _ _ e (unless-fails (whole 16 s (q .at + 1)) _ _ (clause-cut s (q .at + 1) k))
 
   module _ (x y : ℕ) (v : ℤ) (k : clauseIn s (q .at + 1) ≡ C.Whole x y v) where
     abbrev known : ℕ → Bool
@@ -104,7 +105,7 @@ module _ (s : List ℕ) (q : Progress State) (e : q .state .started ≡ true) wh
     -- what follows the test of the body
     abbrev rest : ℕ → ℕ → ℤ → Outcome (Progress State)
     rest x y v =
-        unless (known x && known y) 6 (unless (weightFits v) 8 (unless (leb (length (clauseOf x y)) 64) 7
+        unless (known x && known y) 6 (unless (weightFits v) 8 (passing (short (clauseOf x y) ∷ [])
         (folded q 17 (q .state .work) (within (add (clauseOf x y) v (q .state .lines))))))
 
     clause-read : (whole 16 s (q .at + 1) ≡ true) × ((numberAt 4 s (q .at + 1) ≡ x) × (numberAt 4 s (q .at + 1 + 4) ≡ y) × (signedAt s (q .at + 1 + 8) ≡ v))
@@ -116,30 +117,31 @@ module _ (s : List ℕ) (q : Progress State) (e : q .state .started ≡ true) wh
         let j : q .at + 1 + 8 ≡ q .at + 9 = omega arith in
         let y-is : numberAt 4 s (q .at + 5) ≡ y = rw i at (clause-read .1 .1) in
         let v-is : signedAt s (q .at + 9) ≡ v = rw j at (clause-read .1 .2) in
-        unless-passes (q .state .started) 4 _ _ e (unless-passes (whole 16 s (q .at + 1)) 3 _ _ (clause-read .0)
+        unless-passes (q .state .started) _ _ _ e (unless-passes (whole 16 s (q .at + 1)) _ _ _ (clause-read .0)
         (h ∙ sym (ap (λ (t : ℕ). rest t y v) (clause-read .1 .0)) ∙ sym (ap₂ (λ (t : ℕ) (w : ℤ). rest (numberAt 4 s (q .at + 1)) t w) y-is v-is)))
 
-    pub plain-unknown : known x ≡ false → refused 6 ≡ onClause s q
-    plain-unknown i = on-rest _ (unless-fails (known x && known y) 6 _ (rw i))
+    pub plain-unknown : known x ≡ false → refused (numbered 6) ≡ onClause s q
+    plain-unknown i = on-rest _ (unless-fails (known x && known y) _ _ (rw i))
 
     module _ (i : known x ≡ true) where
-      pub negated-unknown : known y ≡ false → refused 6 ≡ onClause s q
-      negated-unknown j = on-rest _ (unless-fails (known x && known y) 6 _ (rw (i, j)))
+      pub negated-unknown : known y ≡ false → refused (numbered 6) ≡ onClause s q
+      negated-unknown j = on-rest _ (unless-fails (known x && known y) _ _ (rw (i, j)))
 
       module _ (j : known y ≡ true) where
         all-known : (known x && known y) ≡ true
         all-known = rw (i, j)
 
-        pub clause-out : weightFits v ≡ false → refused 8 ≡ onClause s q
-        clause-out l = on-rest _ (unless-passes (known x && known y) 6 _ _ all-known (unless-fails (weightFits v) 8 _ l))
+        pub clause-out : weightFits v ≡ false → refused (numbered 8) ≡ onClause s q
+        clause-out l = on-rest _ (unless-passes (known x && known y) _ _ _ all-known (unless-fails (weightFits v) _ _ l))
 
         module _ (l : weightFits v ≡ true) where
-          pub clause-long : 64 < length (clauseOf x y) → refused 7 ≡ onClause s q
-          clause-long m = on-rest _ (unless-passes (known x && known y) 6 _ _ all-known (unless-passes (weightFits v) 8 _ _ l (unless-fails (leb (length (clauseOf x y)) 64) 7 _ (lt-leb _ 64 m))))
+          pub clause-long : (r : ℕ) → r ≡ length (clauseOf x y) → 64 < r → refused (tooLong r) ≡ onClause s q
+          clause-long r z m =
+              on-rest _ (unless-passes (known x && known y) _ _ _ all-known (unless-passes (weightFits v) _ _ _ l (rw z (unless-fails (leb (length (clauseOf x y)) 64) _ _ (lt-leb _ 64 (rw z at m))))))
 
           pub clause-in : length (clauseOf x y) ≤ 64 → folded q 17 (q .state .work) (within (add (clauseOf x y) v (q .state .lines))) ≡ onClause s q
           clause-in m =
-              on-rest _ (unless-passes (known x && known y) 6 _ _ all-known (unless-passes (weightFits v) 8 _ _ l (unless-passes (leb (length (clauseOf x y)) 64) 7 _ _ (le-leb _ 64 m) refl)))
+              on-rest _ (unless-passes (known x && known y) _ _ _ all-known (unless-passes (weightFits v) _ _ _ l (unless-passes (leb (length (clauseOf x y)) 64) _ _ _ (le-leb _ 64 m) refl)))
 
 -- the polynomial of a clause that is not too long
 pub measured-terms : (l : List ℕ) (o : Measured) → o ≡ measuredOf l → o .length ≤ 64 → (termsOf (o .polynomial) ≡ l) × (length l ≤ 64)
@@ -168,18 +170,18 @@ module _ (s : List ℕ) (q : Progress State) where
   unfolding onRecord
   is-clause e = rw e
 
-  pub no-kind : (kind ≡ letterV → ⊥) → (kind ≡ letterM → ⊥) → (kind ≡ letterW → ⊥) → (kind ≡ letterC → ⊥) → refused 4 ≡ onRecord s q
+  pub no-kind : (kind ≡ letterV → ⊥) → (kind ≡ letterM → ⊥) → (kind ≡ letterW → ⊥) → (kind ≡ letterC → ⊥) → refused (numbered 4) ≡ onRecord s q
   unfolding onRecord
   no-kind a b c d = rw (ne-eqb kind letterV a, ne-eqb kind letterM b, ne-eqb kind letterW c, ne-eqb kind letterC d)
 
 -- ---- the end: the answer, whether V came and whether the work polynomial is empty
 abbrev pub ending : ℕ → Bool → Bool → Told (Unit {0})
-ending k b c = verdict k tt (cond (b && c) nothing (refusedFor 15))
+ending k b c = verdict k tt (cond (b && c) nothing (refusedFor (numbered 15)))
 
-pub no-start : (k : ℕ) (b c : Bool) → b ≡ false → refusedAt (k + 1) 15 ≡ ending k b c
+pub no-start : (k : ℕ) (b c : Bool) → b ≡ false → refusedAt (k + 1) (numbered 15) ≡ ending k b c
 no-start k b c e = let one : k + 1 ≡ suc k = omega arith in rw (e, one)
 
-pub work-left : (k : ℕ) (b c : Bool) → b ≡ true → c ≡ false → refusedAt (k + 1) 15 ≡ ending k b c
+pub work-left : (k : ℕ) (b c : Bool) → b ≡ true → c ≡ false → refusedAt (k + 1) (numbered 15) ≡ ending k b c
 work-left k b c e d = let one : k + 1 ≡ suc k = omega arith in rw (e, d, one)
 
 pub all-filed : (k : ℕ) (b c : Bool) → b ≡ true → c ≡ true → filed ≡ ending k b c

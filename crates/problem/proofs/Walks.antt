@@ -7,7 +7,7 @@ use native.Mathlib.Omega.{arith}
 use lib.ListN.{length}
 use Rattle.refusal.specs.Outcome.{Stop, nothing, refusedFor, Reached, Told, refusedAt, after}
 use Rattle.refusal.specs.OutcomeLaws.{after-accepted}
-use Rattle.refusal.specs.Refusal.{numberOf}
+use Rattle.refusal.specs.Refusal.{refusalOf}
 use Rattle.refusal.specs.declared.Reason.{Reason}
 use Rattle.configuration.specs.LineLaws.{polynomial-sorted, configuration-parts}
 use Rattle.configuration.specs.Made.{Made}
@@ -53,5 +53,5 @@ made-there s q x a e k =
     ap (λ (a : Told (Unit {0})). record { variables = q .state .variables; lines = q .state .lines; told = a }) e
     ∙ ap (λ (w : Reached (W.Progress State)). record { variables = w .reached .state .variables; lines = w .reached .state .lines; told = verdict (w .reached .records) tt (w .stop) }) k
 
-pub told-next : (k : ℕ) (reason : Reason) → _≡_ {A = Told (Unit {0})} (refusedAt (k + 1) (numberOf reason)) (verdict k tt (refusedFor (numberOf reason)))
-told-next k reason = ap (λ (k : ℕ). refusedAt k (numberOf reason)) (one-more k)
+pub told-next : (k : ℕ) (reason : Reason) → _≡_ {A = Told (Unit {0})} (refusedAt (k + 1) (refusalOf reason)) (verdict k tt (refusedFor (refusalOf reason)))
+told-next k reason = ap (λ (k : ℕ). refusedAt k (refusalOf reason)) (one-more k)

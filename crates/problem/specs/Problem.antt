@@ -1,17 +1,17 @@
 -- Filing a problem: the records of document 01's filing, and what is refused.
 use mathlib.Core.Bool.{Bool, true, false, cond, not, _&&_}
-use mathlib.Core.List.{List, []}
+use mathlib.Core.List.{List, [], _∷_}
 use Prim.Native.Nat.{ℕ, _+_, _^_}
 use lib.Dec.{leb, ltb, eqb}
 use lib.IntN.{ℤ, pos}
 use lib.Signed.{leZ}
-use lib.ListN.{length, getD}
-use Rattle.refusal.specs.Outcome.{Outcome, accepted, refused, unless, mapped, Told, answered, refusedAt}
+use lib.ListN.{getD}
+use Rattle.refusal.specs.Outcome.{Outcome, accepted, refused, unless, passing, mapped, Told, answered, refusedAt}
 use Rattle.polynomial.specs.Polynomial.{ZERO, clauseOf}
 use Rattle.configuration.specs.Configuration.{Line, some, add}
 use Rattle.configuration.specs.Made.{Made}
-use Rattle.configuration.specs.Limits.{within}
-use Rattle.refusal.specs.Refusal.{numberOf}
+use Rattle.configuration.specs.Limits.{short, within}
+use Rattle.refusal.specs.Refusal.{numbered, refusalOf}
 use Rattle.record.specs.Letters.{letterV, letterM, letterW, letterC}
 use Rattle.record.specs.Record.{whole, numberAt, signedAt}
 use Rattle.walk.specs.Walk.{Progress, past, Reader, readAll, verdict}
@@ -75,7 +75,7 @@ onClause s p =
     (unless (whole 16 s (p .at + 1)) 3
     (unless (ltb plain (2 ^ (p .state .variables)) && ltb negated (2 ^ (p .state .variables))) 6
     (unless (weightFits w) 8
-    (unless (leb (length (clauseOf plain negated)) 64) 7
+    (passing (short (clauseOf plain negated) ∷ [])
     (folded p 17 (p .state .work) (within (add (clauseOf plain negated) w (p .state .lines))))))))
 
 -- the kinds are the letters V, M, W and C
@@ -86,7 +86,7 @@ onRecord s p =
     (cond (eqb kind letterM) (onTerm s p)
     (cond (eqb kind letterW) (onWeight s p)
     (cond (eqb kind letterC) (onClause s p)
-    (refused 4))))
+    (refused (numbered 4)))))
 
 -- at the end of the bytes V must have come, and the work polynomial be empty
 abbrev pub filing : Reader State
@@ -108,4 +108,4 @@ fileProblem s =
 -- the paper's words for an answer
 abbrev pub toldOfFiling : FilingAnswer → Told (Unit {0})
 toldOfFiling Filed = filed
-toldOfFiling (Refused k reason) = refusedAt k (numberOf reason)
+toldOfFiling (Refused k reason) = refusedAt k (refusalOf reason)

@@ -9,6 +9,7 @@ use lib.Signed.{leZ}
 use lib.Dec.{le→leb, T, leb, leb→le, ltb, ltb→lt, nltb→le, eqb}
 use lib.IntN.{ℤ, pos, negsuc, _+ℤ_, +ℤ-idl}
 use lib.ListN.{length, getD}
+use Rattle.refusal.specs.Refusal.{Refusal, numbered}
 use Rattle.refusal.specs.Outcome.{Outcome, accepted, refused, unless, mapped, Told}
 use Rattle.run.specs.BooleanLaws.{bool-ext, is-true, of-true, not-both, both, cond-ind}
 use Rattle.polynomial.specs.Polynomial.{ZERO, eval, orderOf, sumOf, clauseOf}
@@ -31,18 +32,18 @@ use Rattle.run.specs.BooleanLaws as B
 use Rattle.polynomial.specs.PolynomialLaws as P
 
 -- ---- one record: what an accepted one passed, and what it adds
-folded-ind : (R : Outcome (Progress State) → Type 0) (p : Progress State) (size : ℕ) (work : List ℕ) (L : List Line) → ((n : ℕ) → R (refused n))
+folded-ind : (R : Outcome (Progress State) → Type 0) (p : Progress State) (size : ℕ) (work : List ℕ) (L : List Line) → ((x : Refusal) → R (refused x))
     → (length L ≤ 128 → T (weightsFit L) → R (accepted (past p size (having work L (p .state))))) → R (folded p size work (within L))
 unfolding within
 folded-ind R p size work L nay yea = go (leb (length L) 128) (weightsFit L) (λ a b. yea (leb→le (length L) 128 a) b)
   where
     go : (a b : Bool) → (T a → T b → R (accepted (past p size (having work L (p .state))))) → R (folded p size work (unless a 10 (unless b 11 (accepted L))))
     go true true k = k tt tt
-    go true false k = nay 11
-    go false b k = nay 10
+    go true false k = nay (numbered 11)
+    go false b k = nay (numbered 10)
 
 module _ (s : List ℕ) (p : Progress State) (R : List Line → Outcome (Progress State) → Type 0) where
-  pub record-ind : ((C : List Line) (n : ℕ) → R C (refused n))
+  pub record-ind : ((C : List Line) (x : Refusal) → R C (refused x))
       → (T (not (p .state .started)) → T (whole 1 s (p .at + 1)) → numberAt 1 s (p .at + 1) ≤ 32
       → R [] (accepted (past p 2 (record { started = true; variables = numberAt 1 s (p .at + 1); work = ZERO; lines = [] }))))
       → ((t : ℕ) → T (p .state .started) → T (whole 4 s (p .at + 1)) → t < 2 ^ (p .state .variables) → T (leb (length (sumOf (t ∷ []) (p .state .work))) 64)
@@ -80,24 +81,24 @@ module _ (s : List ℕ) (p : Progress State) (R : List Line → Outcome (Progres
 
       go : (a b d e : Bool)
           → R (cond a [] (cond b [] (cond d (line f u ∷ []) (cond e (line (clauseOf x y) w ∷ []) []))))
-          (cond a (onVariables s p) (cond b (onTerm s p) (cond d (onWeight s p) (cond e (onClause s p) (refused 4)))))
+          (cond a (onVariables s p) (cond b (onTerm s p) (cond d (onWeight s p) (cond e (onClause s p) (refused (numbered 4))))))
       go true b d e =
-          unless-ind (R []) (not (p .state .started)) 4 (nay []) (λ h. unless-ind (R []) (whole 1 s (p .at + 1)) 3 (nay []) (λ i.
-          unless-ind (R []) (leb (numberAt 1 s (p .at + 1)) 32) 5 (nay []) (λ j. onV h i (leb→le (numberAt 1 s (p .at + 1)) 32 j))))
+          unless-ind (R []) (not (p .state .started)) _ (nay []) (λ h. unless-ind (R []) (whole 1 s (p .at + 1)) _ (nay []) (λ i.
+          unless-ind (R []) (leb (numberAt 1 s (p .at + 1)) 32) _ (nay []) (λ j. onV h i (leb→le (numberAt 1 s (p .at + 1)) 32 j))))
       go false true d e =
-          unless-ind (R []) (p .state .started) 4 (nay []) (λ h.
+          unless-ind (R []) (p .state .started) _ (nay []) (λ h.
           term-ind n s (p .at + 1) f (λ r. R [] (mapped (λ g. past p 5 (having g L (p .state))) r)) (nay []) (λ i j k. onM x h i j k))
       go false false true e =
           let C : List Line = line f u ∷ [] in
-          unless-ind (R C) (p .state .started) 4 (nay C) (λ h. unless-ind (R C) (whole 8 s (p .at + 1)) 3 (nay C) (λ i. unless-ind (R C) (weightFits u) 8 (nay C) (λ j.
+          unless-ind (R C) (p .state .started) _ (nay C) (λ h. unless-ind (R C) (whole 8 s (p .at + 1)) _ (nay C) (λ i. unless-ind (R C) (weightFits u) _ (nay C) (λ j.
           folded-ind (R C) p 9 ZERO (add f u L) (nay C) (λ k l. onW u h i j k l))))
       go false false false true =
           let C : List Line = line (clauseOf x y) w ∷ [] in
-          unless-ind (R C) (p .state .started) 4 (nay C) (λ h. unless-ind (R C) (whole 16 s (p .at + 1)) 3 (nay C) (λ i.
-          unless-ind (R C) (ltb x (2 ^ n) && ltb y (2 ^ n)) 6 (nay C) (λ j. unless-ind (R C) (weightFits w) 8 (nay C) (λ k.
-          unless-ind (R C) (leb (length (clauseOf x y)) 64) 7 (nay C) (λ l. folded-ind (R C) p 17 f (add (clauseOf x y) w L) (nay C)
+          unless-ind (R C) (p .state .started) _ (nay C) (λ h. unless-ind (R C) (whole 16 s (p .at + 1)) _ (nay C) (λ i.
+          unless-ind (R C) (ltb x (2 ^ n) && ltb y (2 ^ n)) _ (nay C) (λ j. unless-ind (R C) (weightFits w) _ (nay C) (λ k.
+          unless-ind (R C) (leb (length (clauseOf x y)) 64) _ (nay C) (λ l. folded-ind (R C) p 17 f (add (clauseOf x y) w L) (nay C)
           (λ m o. onC x y w h i (ltb→lt x (2 ^ n) (B.left (ltb x (2 ^ n)) (ltb y (2 ^ n)) j)) (ltb→lt y (2 ^ n) (B.right (ltb x (2 ^ n)) (ltb y (2 ^ n)) j)) k l m o))))))
-      go false false false false = nay [] 4
+      go false false false false = nay [] (numbered 4)
 
 -- ---- the configuration is the folded sum of the entries
 -- before V there are no lines

@@ -2,20 +2,21 @@
 -- after them.
 use mathlib.Core.Path.{_≡_, refl, sym, ap, ap₂, _∙_}
 use mathlib.Core.Bool.{Bool, true, false, cond, not, _&&_}
-use mathlib.Core.List.{List, []}
+use mathlib.Core.List.{List, [], _∷_}
 use Prim.Native.Nat.{ℕ, suc, _+_, _^_, _≤_, _<_}
 use native.Mathlib.Omega.{arith}
 use lib.Dec.{leb, leb→le, ltb, eqb}
 use lib.ListN.{length, getD, take}
 use lib.Seq.{getD-take}
-use Rattle.refusal.specs.Outcome.{Outcome, accepted, refused, unless, mapped, refusedFor, Reached, refusedAt}
+use Rattle.refusal.specs.Refusal.{Refusal, numbered}
+use Rattle.refusal.specs.Outcome.{Outcome, accepted, refused, unless, passing, mapped, refusedFor, Reached, refusedAt}
 use Rattle.polynomial.specs.Polynomial.{ZERO, clauseOf}
 use Rattle.configuration.specs.Configuration.{Line, add}
-use Rattle.configuration.specs.Limits.{within}
+use Rattle.configuration.specs.Limits.{short, within}
 use Rattle.record.specs.Letters.{letterV, letterM, letterW, letterC}
 use Rattle.record.specs.Record.{whole, numberAt, signed, signedAt}
 use Rattle.record.specs.RecordLaws.{number-take, whole-take}
-use Rattle.walk.specs.Walk.{Progress, begun, past, readAll, Refusal, acceptedBytes}
+use Rattle.walk.specs.Walk.{Progress, begun, past, readAll, RefusedNext, acceptedBytes}
 use Rattle.walk.specs.Work.{termAdded}
 use Rattle.walk.specs.WalkLaws.{told-refused, Ends, same-outcome, unless-ind, mapped-ind, IfAccepted, Local, refused-record, accepted-bytes}
 use Rattle.problem.specs.Problem.{State, empty, having, weightFits, folded, onVariables, onTerm, onWeight, onClause, onRecord, filing, fileProblem}
@@ -56,7 +57,7 @@ module _ (s : List ℕ) (p : Progress State) (K : ℕ) (l : K ≤ length s) wher
     where
       with : Bool → ℕ → ℕ → ℕ → Outcome (Progress State)
       with b x y z = unless (p .state .started) 4 (unless b 3 (unless (ltb x (2 ^ (p .state .variables)) && ltb y (2 ^ (p .state .variables))) 6
-          (unless (weightFits (signed z)) 8 (unless (leb (length (clauseOf x y)) 64) 7
+          (unless (weightFits (signed z)) 8 (passing (short (clauseOf x y) ∷ [])
           (folded p 17 (p .state .work) (within (add (clauseOf x y) (signed z) (p .state .lines))))))))
 
 -- where a record of each kind ends, if it is accepted
@@ -68,20 +69,20 @@ module _ (s : List ℕ) (p : Progress State) where
   ends-variables : Ends (p .at + 2) (onVariables s p)
   ends-variables =
       let E : Outcome (Progress State) → Type 0 = Ends (p .at + 2) in
-      unless-ind E (not (p .state .started)) 4 (λ n. tt) (λ h. unless-ind E (whole 1 s (p .at + 1)) 3 (λ n. tt) (λ i.
-      unless-ind E (leb (numberAt 1 s (p .at + 1)) 32) 5 (λ n. tt) (λ j. refl)))
+      unless-ind E (not (p .state .started)) _ (λ r. tt) (λ h. unless-ind E (whole 1 s (p .at + 1)) _ (λ r. tt) (λ i.
+      unless-ind E (leb (numberAt 1 s (p .at + 1)) 32) _ (λ r. tt) (λ j. refl)))
 
   ends-term : Ends (p .at + 5) (onTerm s p)
   ends-term =
       let E : Outcome (Progress State) → Type 0 = Ends (p .at + 5) in
-      unless-ind E (p .state .started) 4 (λ n. tt) (λ h. mapped-ind E (λ f. past p 5 (having f (p .state .lines) (p .state)))
-      (termAdded (p .state .variables) s (p .at + 1) (p .state .work)) (λ n. tt) (λ f e. refl))
+      unless-ind E (p .state .started) _ (λ r. tt) (λ h. mapped-ind E (λ f. past p 5 (having f (p .state .lines) (p .state)))
+      (termAdded (p .state .variables) s (p .at + 1) (p .state .work)) (λ r. tt) (λ f e. refl))
 
   ends-weight : Ends (p .at + 9) (onWeight s p)
   ends-weight =
       let E : Outcome (Progress State) → Type 0 = Ends (p .at + 9) in
-      unless-ind E (p .state .started) 4 (λ n. tt) (λ h. unless-ind E (whole 8 s (p .at + 1)) 3 (λ n. tt) (λ i.
-      unless-ind E (weightFits (signedAt s (p .at + 1))) 8 (λ n. tt) (λ j.
+      unless-ind E (p .state .started) _ (λ r. tt) (λ h. unless-ind E (whole 8 s (p .at + 1)) _ (λ r. tt) (λ i.
+      unless-ind E (weightFits (signedAt s (p .at + 1))) _ (λ r. tt) (λ j.
       ends-folded p 9 ZERO (within (add (p .state .work) (signedAt s (p .at + 1)) (p .state .lines))))))
 
   ends-clause : Ends (p .at + 17) (onClause s p)
@@ -89,9 +90,9 @@ module _ (s : List ℕ) (p : Progress State) where
       let E : Outcome (Progress State) → Type 0 = Ends (p .at + 17) in
       let x : ℕ = numberAt 4 s (p .at + 1) in
       let y : ℕ = numberAt 4 s (p .at + 5) in
-      unless-ind E (p .state .started) 4 (λ n. tt) (λ h. unless-ind E (whole 16 s (p .at + 1)) 3 (λ n. tt) (λ i.
-      unless-ind E (ltb x (2 ^ (p .state .variables)) && ltb y (2 ^ (p .state .variables))) 6 (λ n. tt) (λ j.
-      unless-ind E (weightFits (signedAt s (p .at + 9))) 8 (λ n. tt) (λ k. unless-ind E (leb (length (clauseOf x y)) 64) 7 (λ n. tt) (λ m.
+      unless-ind E (p .state .started) _ (λ r. tt) (λ h. unless-ind E (whole 16 s (p .at + 1)) _ (λ r. tt) (λ i.
+      unless-ind E (ltb x (2 ^ (p .state .variables)) && ltb y (2 ^ (p .state .variables))) _ (λ r. tt) (λ j.
+      unless-ind E (weightFits (signedAt s (p .at + 9))) _ (λ r. tt) (λ k. unless-ind E (leb (length (clauseOf x y)) 64) _ (λ r. tt) (λ m.
       ends-folded p 17 (p .state .work) (within (add (clauseOf x y) (signedAt s (p .at + 9)) (p .state .lines))))))))
 
 record-prefix : (s : List ℕ) (p q : Progress State) (K : ℕ) → K ≤ length s → q .at ≤ K → onRecord s p ≡ accepted q → onRecord (take K s) p ≡ accepted q
@@ -101,8 +102,8 @@ record-prefix s p q K l h e =
     rw (getD-take K s (p .at) 0 d) (go (eqb (getD s (p .at) 0) letterV) (eqb (getD s (p .at) 0) letterM) (eqb (getD s (p .at) 0) letterW) (eqb (getD s (p .at) 0) letterC) e)
   where
     go : (a b c d : Bool)
-        → cond a (onVariables s p) (cond b (onTerm s p) (cond c (onWeight s p) (cond d (onClause s p) (refused 4)))) ≡ accepted q
-        → cond a (onVariables (take K s) p) (cond b (onTerm (take K s) p) (cond c (onWeight (take K s) p) (cond d (onClause (take K s) p) (refused 4)))) ≡ accepted q
+        → cond a (onVariables s p) (cond b (onTerm s p) (cond c (onWeight s p) (cond d (onClause s p) (refused (numbered 4))))) ≡ accepted q
+        → cond a (onVariables (take K s) p) (cond b (onTerm (take K s) p) (cond c (onWeight (take K s) p) (cond d (onClause (take K s) p) (refused (numbered 4))))) ≡ accepted q
     go true b c d f = same-outcome (p .at + 2) K (onVariables s p) (onVariables (take K s) p) q (ends-variables s p) (variables-take s p K l) h f
     go false true c d f = same-outcome (p .at + 5) K (onTerm s p) (onTerm (take K s) p) q (ends-term s p) (term-take s p K l) h f
     go false false true d f = same-outcome (p .at + 9) K (onWeight s p) (onWeight (take K s) p) q (ends-weight s p) (weight-take s p K l) h f
@@ -112,20 +113,20 @@ record-prefix s p q K l h e =
 pub filing-local : Local filing
 filing-local = record { inside = record-inside; prefix = record-prefix }
 
-module _ (s : List ℕ) (K n : ℕ) (e : fileProblem s .told ≡ refusedAt K n) where
+module _ (s : List ℕ) (K : ℕ) (x : Refusal) (e : fileProblem s .told ≡ refusedAt K x) where
   abbrev reading : Reached (Progress State)
   reading = readAll filing s empty
 
-  stopped : (K ≡ suc (reading .reached .records)) × (reading .stop ≡ refusedFor n)
+  stopped : (K ≡ suc (reading .reached .records)) × (reading .stop ≡ refusedFor x)
   unfolding fileProblem
-  stopped = told-refused (reading .reached .records) tt (reading .stop) K n e
+  stopped = told-refused (reading .reached .records) tt (reading .stop) K x e
 
   pub refused-number : K ≡ suc (reading .reached .records)
   refused-number = stopped .0
 
-  -- document 01's number is of the first record that is not accepted
-  pub refused-first : Refusal filing s (reading .reached) n
-  refused-first = refused-record filing filing-local (length s) s (begun empty) n (omega arith) (stopped .1)
+  -- the refusal is that of the first record that is not accepted
+  pub refused-first : RefusedNext filing s (reading .reached) x
+  refused-first = refused-record filing filing-local (length s) s (begun empty) x (omega arith) (stopped .1)
 
   -- it makes what the bytes of the accepted records alone make
   pub refused-prefix : (let a = fileProblem (acceptedBytes filing s empty) in (fileProblem s .variables ≡ a .variables) × (fileProblem s .lines ≡ a .lines))

@@ -15,6 +15,7 @@ ghost use mathlib.Core.Bool.{cond, _&&_};
 ghost use Prim.Native.Nat.{_<_};
 ghost use lib.Dec.{eqb};
 ghost use lib.ListN.{length};
+ghost use Rattle.refusal.specs.Refusal.{numbered};
 ghost use Rattle.refusal.specs.Outcome.{nothing, refusedFor};
 ghost use Rattle.polynomial.specs.Polynomial.{ZERO};
 ghost use Rattle.table.specs.Rows.{tableAt, tableBefore, tableAfter, Fits, madeIn};
@@ -87,7 +88,7 @@ fn on_record(
 // The end of the bytes: V must have come, and the work polynomial be 0. It is for `file_problem`.
 fn finish(p: Progress) -> FilingAnswer
     requires { ⌜ p .records < 18446744073709551615 ⌝ }
-    ensures { λ r. ⌜ toldOfFiling r ≡ verdict (p .records) tt (cond (p .started && eqb (p .work) (length ZERO)) nothing (refusedFor 15)) ⌝ }
+    ensures { λ r. ⌜ toldOfFiling r ≡ verdict (p .records) tt (cond (p .started && eqb (p .work) (length ZERO)) nothing (refusedFor (numbered 15))) ⌝ }
 {
     if !p.started {
         return FilingAnswer::Refused(p.records + 1, Reason::Unfinished);

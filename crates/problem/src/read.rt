@@ -106,7 +106,7 @@ pub fn read_clause(bytes: &[u8], p: Progress) -> Weighted
     }
     let clause = Polynomial::clause(plain, negated);
     if 64 < clause.length {
-        return no_polynomial(Reason::TooManyTerms);
+        return no_polynomial(Reason::TooManyTerms(clause.length as u64));
     }
     let polynomial = clause.polynomial;
     Weighted {

@@ -1,6 +1,6 @@
-// Why an operation refuses. Document 01 numbers the kinds of refusal.
+// Why an operation refuses. Document 01 numbers the kinds of refusal; some tell a second number, a detail.
 ghost use mathlib.Core.Path.{_≡_};
-ghost use Rattle.refusal.specs.Refusal.{numberOf};
+ghost use Rattle.refusal.specs.Refusal.{refusalOf};
 
 pub enum Reason {
     // A lent area has another length than it must have.
@@ -15,8 +15,8 @@ pub enum Reason {
     TooManyVariables,
     // A variable beyond the problem's variables.
     UnknownVariable,
-    // A polynomial of more than 64 terms.
-    TooManyTerms,
+    // A polynomial of more than 64 terms, and how many it has. A clause may have 2^32.
+    TooManyTerms(u64),
     // A weight, an amount or a claim outside its range.
     OutOfRange,
     // Plain mode: the weight that a step takes is not there.
@@ -47,7 +47,7 @@ pub enum Objection {
 
 // Document 01's number of a reason.
 pub fn number(reason: Reason) -> u32
-    ensures { λ r. ⌜ r ≡ numberOf reason ⌝ }
+    ensures { λ r. ⌜ r ≡ refusalOf reason .number ⌝ }
 {
     match reason {
         Reason::WrongLength => 1,
@@ -56,7 +56,7 @@ pub fn number(reason: Reason) -> u32
         Reason::Misplaced => 4,
         Reason::TooManyVariables => 5,
         Reason::UnknownVariable => 6,
-        Reason::TooManyTerms => 7,
+        Reason::TooManyTerms(_) => 7,
         Reason::OutOfRange => 8,
         Reason::WeightMissing => 9,
         Reason::TooManyLines => 10,

@@ -18,25 +18,25 @@ use Rattle.listing.specs.ListingLaws.{decimal-short, decimal-digits, weight-sho
 use Rattle.listing.specs.Writing.{overwritten}
 use Rattle.listing.proofs.Names.{regroup}
 use Rattle.report.specs.Report.{refusalText, confirmedText, verdictText, codeText, lineOf}
-use Rattle.refusal.specs.Refusal.{numberOf}
+use Rattle.refusal.specs.Refusal.{Refusal, refusalOf}
 use Rattle.refusal.specs.RefusalLaws.{number-most}
 use Rattle.derivation.specs.Derivation.{toldOfCheck}
 use Rattle.derivation.specs.declared.CheckAnswer.{CheckAnswer}
 use Rattle.derivation.specs.declared.CheckAnswer.the-variants.{Confirmed, Refused}
 
 -- ---- the parts
-pub refusal-parts : (n k : ℕ) → refusalText n k ≡ ascii "refused " ++ (decimal n ++ (ascii " at record " ++ (decimal k ++ ascii "\n")))
+pub refusal-parts : (x : Refusal) (k : ℕ) → refusalText x k ≡ ascii "refused " ++ (decimal (x .number) ++ (ascii " at record " ++ (decimal k ++ ascii "\n")))
 unfolding refusalText
-refusal-parts n k = regroup (ascii "refused ") (decimal n) (ascii " at record ") (decimal k) (ascii "\n")
+refusal-parts x k = regroup (ascii "refused ") (decimal (x .number)) (ascii " at record ") (decimal k) (ascii "\n")
 
 pub confirmed-parts : (w : ℤ) (d : ℕ) → confirmedText w d ≡ ascii "confirmed " ++ (weightText w ++ (ascii " degree " ++ (decimal d ++ ascii "\n")))
 unfolding confirmedText
 confirmed-parts w d = regroup (ascii "confirmed ") (weightText w) (ascii " degree ") (decimal d) (ascii "\n")
 
 -- ---- the lengths: 64 bytes hold every line
-pub refusal-short : (n k : ℕ) → n ≤ 17 → length (refusalText n k) ≤ 42
+pub refusal-short : (x : Refusal) (k : ℕ) → x .number ≤ 17 → length (refusalText x k) ≤ 42
 unfolding refusalText
-refusal-short n k h = simp length-append (omega (arith, decimal-digits 1 n (omega arith) (omega arith), decimal-short k))
+refusal-short x k h = simp length-append (omega (arith, decimal-digits 1 (x .number) (omega arith) (omega arith), decimal-short k))
 
 pub confirmed-short : (w : ℤ) (d : ℕ) → length (confirmedText w d) ≤ 60
 unfolding confirmedText
@@ -102,4 +102,4 @@ text-front x = take-append-seam x (replicate (64 - length x) 0)
 
 pub verdict-short : (a : CheckAnswer) → length (verdictText (toldOfCheck a)) ≤ 64
 verdict-short (Confirmed w d) = omega (arith, confirmed-short w d)
-verdict-short (Refused k reason) = omega (arith, refusal-short (numberOf reason) k (number-most reason))
+verdict-short (Refused k reason) = omega (arith, refusal-short (refusalOf reason) k (number-most reason))

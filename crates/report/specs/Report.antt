@@ -7,6 +7,7 @@ use lib.Dec.{leb}
 use lib.IntN.{ℤ}
 use lib.ListN.{length, drop, replicate}
 use Rattle.io.specs.Digits.{digits}
+use Rattle.refusal.specs.Refusal.{Refusal}
 use Rattle.refusal.specs.Outcome.{Told, answered, refusedAt}
 use Rattle.configuration.specs.Configuration.{Line}
 use Rattle.listing.specs.Words.{ascii}
@@ -17,20 +18,21 @@ use Rattle.derivation.specs.Derivation.{Confirmation, checkDerivation}
 use Rattle.report.specs.declared.Text.{Text}
 
 -- ---- the lines besides the listings
-unfoldable pub refusalText : ℕ → ℕ → List ℕ
-refusalText n k = ascii "refused " ++ decimal n ++ ascii " at record " ++ decimal k ++ ascii "\n"
+-- a refusal by its number; a detail is not printed
+unfoldable pub refusalText : Refusal → ℕ → List ℕ
+refusalText x k = ascii "refused " ++ decimal (x .number) ++ ascii " at record " ++ decimal k ++ ascii "\n"
 
 unfoldable pub confirmedText : ℤ → ℕ → List ℕ
 confirmedText w d = ascii "confirmed " ++ weightText w ++ ascii " degree " ++ decimal d ++ ascii "\n"
 
 -- a refused filing: "problem " in front; an accepted one prints no such line
 abbrev pub filingText : Told (Unit {0}) → List ℕ
-filingText (answered x) = []
-filingText (refusedAt k n) = ascii "problem " ++ refusalText n k
+filingText (answered u) = []
+filingText (refusedAt k x) = ascii "problem " ++ refusalText x k
 
 abbrev pub verdictText : Told Confirmation → List ℕ
-verdictText (answered x) = confirmedText (x .claim) (x .degree)
-verdictText (refusedAt k n) = refusalText n k
+verdictText (answered c) = confirmedText (c .claim) (c .degree)
+verdictText (refusedAt k x) = refusalText x k
 
 abbrev pub codeText : ℕ → List ℕ
 codeText code = digits 16 16 code ++ ascii "\n"
@@ -38,8 +40,8 @@ codeText code = digits 16 16 code ++ ascii "\n"
 -- ---- what the programs print of their files' bytes
 -- "A refused filing gives only `problem refused R at record K`."
 abbrev pub ifFiled : Told (Unit {0}) → List ℕ → List ℕ
-ifFiled (answered x) text = text
-ifFiled (refusedAt k n) text = filingText (refusedAt k n)
+ifFiled (answered u) text = text
+ifFiled (refusedAt k x) text = filingText (refusedAt k x)
 
 -- the second program: the code of the whole listing
 unfoldable pub codeOutput : List ℕ → List ℕ

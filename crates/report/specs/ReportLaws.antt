@@ -6,6 +6,7 @@ use native.Mathlib.Omega.{arith}
 use lib.Dec.{leb}
 use lib.ListN.{length, drop, length-append}
 use Rattle.run.specs.BooleanLaws.{cond-ind}
+use Rattle.refusal.specs.Refusal.{Refusal}
 use Rattle.refusal.specs.Outcome.{Told, answered, refusedAt}
 use Rattle.problem.specs.Problem.{fileProblem}
 use Rattle.derivation.specs.Derivation.{Confirmation, checkDerivation}
@@ -29,18 +30,18 @@ report-fits room text area b n e =
 behind : (a b : List ℕ) → 0 < length b → 0 < length (a ++ b)
 behind a b h = omega (arith, length-append a b, h)
 
-refusal-some : (n k : ℕ) → 0 < length (refusalText n k)
+refusal-some : (x : Refusal) (k : ℕ) → 0 < length (refusalText x k)
 unfolding refusalText
-refusal-some n k = omega arith
+refusal-some x k = omega arith
 
 verdict-some : (t : Told Confirmation) → 0 < length (verdictText t)
 unfolding confirmedText
 verdict-some (answered x) = omega arith
-verdict-some (refusedAt k n) = refusal-some n k
+verdict-some (refusedAt k x) = refusal-some x k
 
 filed-some : (t : Told (Unit {0})) (text : List ℕ) → 0 < length text → 0 < length (ifFiled t text)
 filed-some (answered x) text h = h
-filed-some (refusedAt k n) text h = omega arith
+filed-some (refusedAt k x) text h = omega arith
 
 pub check-some : (s t : List ℕ) → 0 < length (checkOfFiles s t)
 unfolding checkOutput

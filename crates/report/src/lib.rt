@@ -16,7 +16,7 @@ ghost use mathlib.Core.Path.{_≡_};
 ghost use Prim.Native.Nat.{_+_, _≤_, min};
 ghost use lib.Dec.{T};
 ghost use lib.ListN.{length, take};
-ghost use Rattle.refusal.specs.Refusal.{numberOf};
+ghost use Rattle.refusal.specs.Refusal.{refusalOf};
 ghost use Rattle.configuration.specs.Configuration.{isConfiguration};
 ghost use Rattle.table.specs.Rows.{tableAt, tableBefore, linesOf, Fits};
 ghost use Rattle.problem.specs.Problem.{toldOfFiling};
@@ -41,9 +41,9 @@ pub fn held(text: Text) -> usize
 
 // What was refused and where, from a place in the bytes on.
 fn put_refusal(out: &mut [u8], at: usize, place: u64, reason: Reason) -> usize
-    requires { ⌜ at + length (refusalText (numberOf reason) place) ≤ length (now out) ⌝ }
-    ensures end { λ r. ⌜ r ≡ at + length (refusalText (numberOf reason) place) ⌝ }
-    ensures text { λ _. ⌜ now (out .exit) ≡ overwritten (now (out .entry)) at (refusalText (numberOf reason) place) ⌝ }
+    requires { ⌜ at + length (refusalText (refusalOf reason) place) ≤ length (now out) ⌝ }
+    ensures end { λ r. ⌜ r ≡ at + length (refusalText (refusalOf reason) place) ⌝ }
+    ensures text { λ _. ⌜ now (out .exit) ≡ overwritten (now (out .entry)) at (refusalText (refusalOf reason) place) ⌝ }
 {
     let kind = number(reason) as u64;
     let said = put_bytes(out, at, b"refused ");

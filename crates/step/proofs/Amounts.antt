@@ -82,5 +82,5 @@ twice-small (negsuc n) h = let k = leb→le (suc n) limit h in (omega arith, (om
 
 pub small-changes : (r : Rule) (f g : List ℕ) (w : ℤ) → T (inRange w) → Small 42 (changes r f g w)
 unfolding negated
-small-changes Sum f g w h = let k = twice-small w h in (k .1 .0, (k .1 .0, (k .0, (k .1 .1, tt))))
+small-changes Sum f g w h = let k = twice-small w h in (k .1 .0, (k .1 .0, (k .1 .1, (k .0, tt))))
 small-changes Prod f g w h = let k = twice-small w h in (k .1 .0, (k .0, (k .0, tt)))

@@ -1,42 +1,44 @@
--- Whether a result is short enough; changes that are folded one by one into a table of four; and what a plan promises of it, and a replacement by it.
+-- What is found against results; changes that are folded one by one into a table of four; and what a plan promises of it, and a replacement by it.
 use mathlib.Core.Path.{_≡_, refl, sym, ap, _∙_}
 use mathlib.Core.Logic.{_⊎_, inl, inr}
-use mathlib.Core.Bool.{Bool, true, false, cond}
 use mathlib.Core.List.{List, [], _∷_, _++_}
 use Prim.Native.Nat.{ℕ, _≤_, _<_, _^_}
 use native.Mathlib.Omega.{arith}
-use lib.Dec.{T, leb}
+use lib.Dec.{T}
 use lib.IntN.{ℤ, _+ℤ_}
 use lib.ListN.{length, take, length-take}
 use lib.Signed.{mag}
 use borrow.Author.Tests.{le-leb, lt-leb}
-use Rattle.refusal.specs.Outcome.{after}
+use Rattle.refusal.specs.Outcome.{Test, after}
+use Rattle.refusal.specs.declared.Objection.{Objection}
+use Rattle.refusal.specs.declared.Objection.the-variants.{Nothing, Found}
+use Rattle.refusal.specs.declared.Reason.the-variants.{TooManyTerms}
 use Rattle.polynomial.specs.Polynomial.{ZERO, ONE, sumOf, productOf, Ordered}
 use Rattle.polynomial.specs.PolynomialLaws.{product-plus-one}
 use Rattle.configuration.specs.Weight.{inRange}
 use Rattle.configuration.specs.Configuration.{Line, line, weight, add, addAll, negated, InOrder}
 use Rattle.configuration.specs.ConfigurationLaws.{all-ordered, netted}
-use Rattle.configuration.specs.Limits.{within}
+use Rattle.configuration.specs.Limits.{short, within}
 use Rattle.replacement.specs.Passes.{Small}
 use Rattle.configuration.specs.WeightLaws.{mag-add}
 use Rattle.replacement.specs.PassesLaws.{netted-weight, netted-small}
 use Rattle.step.proofs.Added.{all-snoc, small-snoc, add-short, all-short}
-use Rattle.calculus.specs.Calculus.{conclusions, changes, allShort}
+use Rattle.calculus.specs.Calculus.{conclusions, changes, lengthTests}
 use Rattle.calculus.specs.CalculusLaws.{none-changed}
 use Rattle.calculus.specs.declared.Rule.{Rule}
 use Rattle.calculus.specs.declared.Rule.the-variants.{Sum, Prod}
 use Rattle.table.specs.Rows.{Table, linesOf, capacityOf, Fits, Holds}
 use Rattle.table.specs.RowsLaws.{of-capacity, to-capacity}
-use Rattle.step.specs.Stepping.{HasPlan}
+use Rattle.step.specs.Stepping.{Finds, ifNothing, HasPlan}
 use Rattle.step.proofs.Amounts.{small-changes}
 
--- ---- whether an exact result l, of r terms, is short enough
-module _ (r : ℕ) (l : List ℕ) (e : r ≡ length l) where
-  pub long : 64 < r → leb (length l) 64 ≡ false
-  long h = lt-leb (length l) 64 (omega arith)
+-- ---- what is found against results, of which the first is l, of r terms
+module _ (r : ℕ) (l : List ℕ) (e : r ≡ length l) (ts : List Test) where
+  pub too-long : 64 < r → Finds (short l ∷ ts) (Found (TooManyTerms r))
+  too-long h o = rw (lt-leb (length l) 64 (omega arith), e)
 
-  pub short : r ≤ 64 → leb (length l) 64 ≡ true
-  short h = le-leb (length l) 64 (omega arith)
+  pub not-long : (found : Objection) → r ≤ 64 → Finds ts found → Finds (short l ∷ ts) found
+  not-long found h k o = rw (le-leb (length l) 64 (omega arith)) (k o)
 
 -- where they fit, the area has room for them
 pub room : (l area : List ℕ) (r : ℕ) → (r ≡ length l) × (r ≤ 64 → take r area ≡ l) → r ≤ 64 → r ≤ length area
@@ -77,26 +79,18 @@ module _ {C : List Line} {t : Table} (k : Folded C t) (l : length C < 4) {f x : 
   fold-given h = record { holds = (h .0 ∙ added ∙ sym (all-snoc C [] f w), to-capacity (k .holds .1) (h .1)); small = small-snoc 42 C f w (k .small) q }
 
 -- ---- what a plan promises
-module _ (r : Rule) (f g : List ℕ) (w : ℤ) where
-  -- the changes by whether the results fit
-  abbrev chosen : Bool → List Line
-  chosen x = addAll (cond x (changes r f g w) []) []
-
-  pub made : (b : Bool) {t : Table} → allShort (conclusions r f g w) ≡ b → Folded (cond b (changes r f g w) []) t → HasPlan r f g w b t
-  made b d k = (sym d, (k .holds .0 ∙ ap chosen (sym d), k .holds .1))
-
-  pub made-lines : {b : Bool} {t : Table} → HasPlan r f g w b t → b ≡ true → linesOf t ≡ addAll (changes r f g w) []
-  made-lines m e = m .1 .0 ∙ ap chosen (sym (m .0) ∙ e)
+pub made-lines : (r : Rule) (f g : List ℕ) (w : ℤ) (found : Objection) {t : Table} → HasPlan r f g w found t → found ≡ Nothing → linesOf t ≡ addAll (changes r f g w) []
+made-lines r f g w found m e = m .1 .0 ∙ ap (λ (o : Objection). addAll (ifNothing o (changes r f g w)) []) e
 
 -- where f g or f (g + 1) has no term nothing changes
 no-terms : (l : List ℕ) → length l ≡ 0 → l ≡ ZERO
 no-terms [] e = refl
 no-terms (t ∷ l) e = let z : ⊥ = omega arith in absurd z
 
-pub made-none : (f g : List ℕ) (w : ℤ) {t : Table} → Folded [] t → Ordered f → allShort (conclusions Prod f g w) ≡ true
-    → (length (productOf f g) ≡ 0) ⊎ (length (productOf f (sumOf g ONE)) ≡ 0) → HasPlan Prod f g w true t
+pub made-none : (f g : List ℕ) (w : ℤ) {t : Table} → Folded [] t → Ordered f → Finds (lengthTests (conclusions Prod f g w)) Nothing
+    → (length (productOf f g) ≡ 0) ⊎ (length (productOf f (sumOf g ONE)) ≡ 0) → HasPlan Prod f g w Nothing t
 unfolding addAll
-made-none f g w k s d h = (sym d, (k .holds .0 ∙ rw d (sym (none-changed f g w s (go h))), k .holds .1))
+made-none f g w k s d h = (d, (k .holds .0 ∙ sym (none-changed f g w s (go h)), k .holds .1))
   where
     go : (length (productOf f g) ≡ 0) ⊎ (length (productOf f (sumOf g ONE)) ≡ 0) → (productOf f g ≡ ZERO) ⊎ (productOf f (sumOf g ONE) ≡ ZERO)
     go (inl e) = inl (no-terms (productOf f g) e)

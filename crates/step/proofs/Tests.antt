@@ -5,7 +5,7 @@ use mathlib.Core.List.{List, []}
 use Prim.Native.Nat.{ℕ}
 use lib.Dec.{T}
 use lib.IntN.{ℤ}
-use Rattle.refusal.specs.Outcome.{Outcome, passing, objected}
+use Rattle.refusal.specs.Outcome.{objected}
 use Rattle.refusal.specs.TestsLaws.{nothing-found}
 use Rattle.refusal.specs.declared.Objection.{Objection}
 use Rattle.refusal.specs.declared.Objection.the-variants.{Nothing}
@@ -15,6 +15,7 @@ use Rattle.calculus.specs.Calculus.{isPlain, modeTests, changed, step}
 use Rattle.calculus.specs.declared.Rule.{Rule}
 use Rattle.calculus.specs.declared.Mode.{Mode}
 use Rattle.calculus.specs.declared.Mode.the-variants.{Plain, Signed}
+use Rattle.step.specs.Stepping.{Finds}
 use Rattle.step.proofs.Amounts.{amount-in-range}
 
 -- ---- the tests that the plain mode alone makes
@@ -26,10 +27,7 @@ module _ (d : Mode) (b : Bool) where
   signed-passes e = (ap (λ (x : Mode). not (isPlain x && b)) e, ap (λ (x : Mode). not (isPlain x) || b) e)
 
 -- ---- what the mode's tests find, in front of the rest of the step
-abbrev pub Judged : Rule → Mode → List ℕ → List ℕ → ℤ → List Line → Objection → Type 0
-Judged r d f g w L found = (o : Outcome (List Line)) → objected found o ≡ passing (modeTests r d f g w L) o
-
-module _ (r : Rule) (d : Mode) (f g : List ℕ) (w : ℤ) (L : List Line) (found : Objection) (j : Judged r d f g w L found) where
+module _ (r : Rule) (d : Mode) (f g : List ℕ) (w : ℤ) (L : List Line) (found : Objection) (j : Finds (modeTests r d f g w L) found) where
   pub objected-is : objected found (changed r f g w L) ≡ step r d f g w L
   unfolding step
   objected-is = j (changed r f g w L)

@@ -1,13 +1,15 @@
--- One step on the lines of a table: what is asked of its operands, and its plan.
+-- One step on the lines of a table: what is asked of its operands, what is found against it, and its plan.
 use mathlib.Core.Path.{_≡_}
-use mathlib.Core.Bool.{Bool, cond}
 use mathlib.Core.List.{List, []}
 use Prim.Native.Nat.{ℕ, _≤_}
 use lib.IntN.{ℤ}
 use lib.ListN.{length}
+use Rattle.refusal.specs.Outcome.{Outcome, Test, passing, objected}
+use Rattle.refusal.specs.declared.Objection.{Objection}
+use Rattle.refusal.specs.declared.Objection.the-variants.{Nothing, Found}
 use Rattle.polynomial.specs.Polynomial.{Ordered}
 use Rattle.configuration.specs.Configuration.{Line, addAll}
-use Rattle.calculus.specs.Calculus.{conclusions, changes, allShort}
+use Rattle.calculus.specs.Calculus.{conclusions, changes, lengthTests}
 use Rattle.calculus.specs.declared.Rule.{Rule}
 use Rattle.table.specs.Rows.{Table, Holds}
 
@@ -15,10 +17,15 @@ use Rattle.table.specs.Rows.{Table, Holds}
 abbrev pub Operand : List ℕ → Type 0
 Operand f = (length f ≤ 64) × Ordered f
 
--- the changes of a rule that are folded in: none where a result has more than 64 terms
-abbrev pub planned : Rule → List ℕ → List ℕ → ℤ → List Line
-planned r f g w = cond (allShort (conclusions r f g w)) (changes r f g w) []
+-- code finds what tests find, in front of any outcome
+abbrev pub Finds : List Test → Objection → Type 0
+Finds ts found = (o : Outcome (List Line)) → objected found o ≡ passing ts o
 
--- what a plan tells and leaves: whether the results of a rule fit, and in a table of four its changes, folded among themselves
-abbrev pub HasPlan : Rule → List ℕ → List ℕ → ℤ → Bool → Table → Type 0
-HasPlan r f g w fits four = (fits ≡ allShort (conclusions r f g w)) × Holds 4 (addAll (planned r f g w) []) four
+-- the changes that are folded in: none where something is found
+abbrev pub ifNothing : Objection → List Line → List Line
+ifNothing Nothing C = C
+ifNothing (Found reason) C = []
+
+-- what a plan tells and leaves: what is found against the results of a rule, and in a table of four its changes, folded among themselves
+abbrev pub HasPlan : Rule → List ℕ → List ℕ → ℤ → Objection → Table → Type 0
+HasPlan r f g w found four = Finds (lengthTests (conclusions r f g w)) found × Holds 4 (addAll (ifNothing found (changes r f g w)) []) four

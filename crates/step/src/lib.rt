@@ -17,15 +17,14 @@ use table::lines::none_negative;
 use table::lines::weight_of;
 ghost use mathlib.Core.Path.{_≡_};
 ghost use mathlib.Core.Bool.{true, cond};
-ghost use mathlib.Core.List.{List};
 ghost use lib.Dec.{T};
 ghost use lib.Signed.{leZ};
-ghost use Rattle.refusal.specs.Outcome.{Outcome, passing, after, stopOf, objected};
+ghost use Rattle.refusal.specs.Outcome.{after, stopOf};
 ghost use Rattle.configuration.specs.Weight.{inRange};
-ghost use Rattle.configuration.specs.Configuration.{Line, some, weight, weightsFit};
+ghost use Rattle.configuration.specs.Configuration.{some, weight, weightsFit};
 ghost use Rattle.calculus.specs.Calculus.{amountFits, premises, there, modeTests, changed, step as stepOf, operandTests};
 ghost use Rattle.table.specs.Rows.{tableAt, tableBefore, tableAfter, linesOf, Fits};
-ghost use Rattle.step.specs.Stepping.{Operand};
+ghost use Rattle.step.specs.Stepping.{Operand, Finds};
 
 // How many lines a step leaves, and what was found against it: nothing, if it was taken.
 pub struct Moved {
@@ -122,7 +121,7 @@ fn object(
 ) -> Objection
     requires { ⌜ Fits 128 (tableAt lines order terms weights counts) ⌝ }
     ensures { λ r. let L = linesOf (tableBefore lines order terms weights counts) in
-        ⌜ ((o : Outcome (List Line)) → objected r o ≡ passing (modeTests rule mode (now (f .entry)) (now (g .entry)) amount L) o) ⌝ }
+        ⌜ Finds (modeTests rule mode (now (f .entry)) (now (g .entry)) amount L) r ⌝ }
 {
     if let Mode::Plain = mode {
         if !none_negative(lines, order, weights) {
@@ -173,10 +172,11 @@ fn change(
         &mut new_weights,
         &mut new_counts,
     );
-    if !plan.fits {
+    let objection = plan.objection;
+    if let Objection::Found(reason) = objection {
         return Moved {
             lines,
-            objection: Objection::Found(Reason::TooManyTerms),
+            objection: Objection::Found(reason),
         };
     }
     let done = replace(
@@ -201,13 +201,13 @@ fn change(
 // The tests of the operands of a step that is taken directly: their lengths, their variables, their order. It is for the crate
 // `checker`.
 pub fn misfit(variables: u32, f: &[u32], g: &[u32]) -> Objection
-    ensures { λ r. ⌜ ((o : Outcome (List Line)) → objected r o ≡ passing (operandTests variables (now (f .entry)) (now (g .entry))) o) ⌝ }
+    ensures { λ r. ⌜ Finds (operandTests variables (now (f .entry)) (now (g .entry))) r ⌝ }
 {
     if 64 < f.len() {
-        return Objection::Found(Reason::TooManyTerms);
+        return Objection::Found(Reason::TooManyTerms(f.len() as u64));
     }
     if 64 < g.len() {
-        return Objection::Found(Reason::TooManyTerms);
+        return Objection::Found(Reason::TooManyTerms(g.len() as u64));
     }
     if !is_below(variables, f) {
         return Objection::Found(Reason::UnknownVariable);

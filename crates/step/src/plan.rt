@@ -2,21 +2,44 @@
 // this crate alone, which lends an empty table once the amount and the operands are tested.
 use calculus::Rule;
 use polynomial::Polynomial;
+use refusal::Objection;
+use refusal::Reason;
 use table::lines::fold_in;
+ghost use mathlib.Core.Path.{_≡_};
 ghost use lib.Dec.{T};
 ghost use Rattle.configuration.specs.Weight.{inRange};
 ghost use Rattle.calculus.specs.declared.Rule.the-variants.{Sum, Prod};
 ghost use Rattle.table.specs.Rows.{tableAt, tableAfter, Fits};
 ghost use Rattle.step.specs.Stepping.{Operand, HasPlan};
 
-// How many lines the table has that has the changes of a rule; where one of its results has more than 64 terms, that they do
-// not fit.
+// How many lines the table has that has the changes of a rule, and what is found against its results: nothing, or that one has
+// more than 64 terms.
 pub struct Plan {
-    pub fits: bool,
     pub lines: usize,
+    pub objection: Objection,
 }
 
-// SUM: f and g lose the amount each, f + g gains it, f g gains it twice.
+// A table of so many lines.
+fn ready(lines: usize) -> Plan
+    ensures { λ r. ⌜ r ≡ record { lines = lines; objection = Objection.Nothing } ⌝ }
+{
+    Plan {
+        lines,
+        objection: Objection::Nothing,
+    }
+}
+
+// No plan, since a result has so many terms.
+fn too_long(terms: usize) -> Plan
+    ensures { λ r. ⌜ r ≡ record { lines = 0; objection = Objection.Found (Reason.TooManyTerms terms) } ⌝ }
+{
+    Plan {
+        lines: 0,
+        objection: Objection::Found(Reason::TooManyTerms(terms as u64)),
+    }
+}
+
+// SUM: f and g lose the amount each, f g gains it twice, f + g gains it.
 fn plan_sum(
     f: &[u32],
     g: &[u32],
@@ -27,33 +50,26 @@ fn plan_sum(
     counts: &mut [u32],
 ) -> Plan
     requires { ⌜ Operand (now f) × Operand (now g) × T (inRange amount) × Fits 4 (tableAt 0 order terms weights counts) ⌝ }
-    ensures { λ r. ⌜ HasPlan Sum (now (f .entry)) (now (g .entry)) amount (r .fits) (tableAfter (r .lines) order terms weights counts) ⌝ }
+    ensures { λ r. ⌜ HasPlan Sum (now (f .entry)) (now (g .entry)) amount (r .objection) (tableAfter (r .lines) order terms weights counts) ⌝ }
 {
-    let mut sum = [0u32; 64];
-    let m = Polynomial::sum(f, g, &mut sum);
-    if 64 < m {
-        return Plan {
-            fits: false,
-            lines: 0,
-        };
-    }
     let mut product = [0u32; 64];
-    let n = Polynomial::product(f, g, &mut product);
-    if 64 < n {
-        return Plan {
-            fits: false,
-            lines: 0,
-        };
+    let product_length = Polynomial::product(f, g, &mut product);
+    if 64 < product_length {
+        return too_long(product_length);
+    }
+    let mut sum = [0u32; 64];
+    let sum_length = Polynomial::sum(f, g, &mut sum);
+    if 64 < sum_length {
+        return too_long(sum_length);
     }
     let lost = -amount;
     let one = fold_in(0, order, terms, weights, counts, f, lost);
     let two = fold_in(one, order, terms, weights, counts, g, lost);
-    let s = &sum[..m];
-    let three = fold_in(two, order, terms, weights, counts, s, amount);
-    let p = &product[..n];
+    let p = &product[..product_length];
     let twice = amount + amount;
-    let lines = fold_in(three, order, terms, weights, counts, p, twice);
-    Plan { fits: true, lines }
+    let three = fold_in(two, order, terms, weights, counts, p, twice);
+    let s = &sum[..sum_length];
+    ready(fold_in(three, order, terms, weights, counts, s, amount))
 }
 
 // PROD: f loses the amount, f g gains it, f (g + 1) gains it. The last is f + f g, since g + 1 may have 65 terms.
@@ -67,43 +83,30 @@ fn plan_prod(
     counts: &mut [u32],
 ) -> Plan
     requires { ⌜ Operand (now f) × Operand (now g) × T (inRange amount) × Fits 4 (tableAt 0 order terms weights counts) ⌝ }
-    ensures { λ r. ⌜ HasPlan Prod (now (f .entry)) (now (g .entry)) amount (r .fits) (tableAfter (r .lines) order terms weights counts) ⌝ }
+    ensures { λ r. ⌜ HasPlan Prod (now (f .entry)) (now (g .entry)) amount (r .objection) (tableAfter (r .lines) order terms weights counts) ⌝ }
 {
     let mut product = [0u32; 64];
     let n = Polynomial::product(f, g, &mut product);
     if 64 < n {
-        return Plan {
-            fits: false,
-            lines: 0,
-        };
+        return too_long(n);
     }
     let p = &product[..n];
     let mut rest = [0u32; 64];
     let m = Polynomial::sum(f, p, &mut rest);
     if 64 < m {
-        return Plan {
-            fits: false,
-            lines: 0,
-        };
+        return too_long(m);
     }
     // Where f g or f (g + 1) is 0 the other is f, which gets back what it loses: nothing changes.
     if n == Polynomial::ZERO.count {
-        return Plan {
-            fits: true,
-            lines: 0,
-        };
+        return ready(0);
     }
     if m == Polynomial::ZERO.count {
-        return Plan {
-            fits: true,
-            lines: 0,
-        };
+        return ready(0);
     }
     let one = fold_in(0, order, terms, weights, counts, f, -amount);
     let two = fold_in(one, order, terms, weights, counts, p, amount);
     let q = &rest[..m];
-    let lines = fold_in(two, order, terms, weights, counts, q, amount);
-    Plan { fits: true, lines }
+    ready(fold_in(two, order, terms, weights, counts, q, amount))
 }
 
 // The plan of a rule. It is for `change` of this crate.
@@ -118,7 +121,7 @@ pub fn plan_of(
     counts: &mut [u32],
 ) -> Plan
     requires { ⌜ Operand (now f) × Operand (now g) × T (inRange amount) × Fits 4 (tableAt 0 order terms weights counts) ⌝ }
-    ensures { λ r. ⌜ HasPlan rule (now (f .entry)) (now (g .entry)) amount (r .fits) (tableAfter (r .lines) order terms weights counts) ⌝ }
+    ensures { λ r. ⌜ HasPlan rule (now (f .entry)) (now (g .entry)) amount (r .objection) (tableAfter (r .lines) order terms weights counts) ⌝ }
 {
     match rule {
         Rule::Sum => plan_sum(f, g, amount, order, terms, weights, counts),

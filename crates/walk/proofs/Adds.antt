@@ -11,7 +11,7 @@ use borrow.Author.Tests.{eq-eqb, ne-eqb}
 use Rattle.refusal.specs.Outcome.{accepted, refused, Reached, after, stopOf}
 use Rattle.refusal.specs.OutcomeLaws.{after-accepted, after-refused}
 use Rattle.refusal.specs.declared.Objection.the-variants.{Nothing, Found}
-use Rattle.refusal.specs.Refusal.{numberOf}
+use Rattle.refusal.specs.Refusal.{refusalOf}
 use Rattle.refusal.specs.declared.Reason.{Reason}
 use Rattle.configuration.specs.Configuration.{some, isPolynomial}
 use Rattle.walk.specs.Work.{termAdded}
@@ -28,10 +28,10 @@ held-none (suc k) (t ∷ us) h = ne-eqb (suc k) 0 (λ e. omega arith)
 module _ (n : ℕ) (s : List ℕ) (at : ℕ) (us : List ℕ) (k : ℕ) (vs : List ℕ) (r : Work)
     (e : _≡_ {A = Reached (List ℕ)} (record { reached = take (r .count) vs; stop = stopOf (r .objection) }) (after (take k us) (termAdded n s at (take k us)))) where
   module _ (reason : Reason) (t : r .objection ≡ Found reason) where
-    down : (termAdded n s at (take k us) ≡ refused (numberOf reason)) × (take (r .count) vs ≡ take k us)
-    down = after-refused (take k us) (take (r .count) vs) (numberOf reason) (termAdded n s at (take k us)) (rw t at e)
+    down : (termAdded n s at (take k us) ≡ refused (refusalOf reason)) × (take (r .count) vs ≡ take k us)
+    down = after-refused (take k us) (take (r .count) vs) (refusalOf reason) (termAdded n s at (take k us)) (rw t at e)
 
-    pub term-refused : termAdded n s at (take k us) ≡ refused (numberOf reason)
+    pub term-refused : termAdded n s at (take k us) ≡ refused (refusalOf reason)
     term-refused = down .0
 
     -- the polynomial is as it was, and as long

@@ -4,6 +4,7 @@ use mathlib.Core.List.{List}
 use Prim.Native.Nat.{ℕ, suc, _-_, _≤_, _<_}
 use native.Mathlib.Omega.{arith}
 use lib.ListN.{length}
+use Rattle.refusal.specs.Refusal.{Refusal}
 use Rattle.refusal.specs.Outcome.{nothing, refusedFor, Reached, after}
 use Rattle.refusal.specs.OutcomeLaws.{after-accepted, after-refused}
 use Rattle.walk.specs.Walk.{Progress, Reader, over, walk}
@@ -34,12 +35,12 @@ module _ {S : Type 0} (R : Reader S) (s : List ℕ) where
           ap (λ (k : ℕ). walk R (length s - k) s r) (inside .2)
           ∙ sym (steps R (length s - suc (q .records)) s q r l (after-accepted q r (R .onRecord s q) e)) ∙ (rw more at h)
 
-    module _ (n : ℕ) (e : _≡_ {A = Reached (Progress S)} (record { reached = r; stop = refusedFor n }) (after q (R .onRecord s q))) where
+    module _ (x : Refusal) (e : _≡_ {A = Reached (Progress S)} (record { reached = r; stop = refusedFor x }) (after q (R .onRecord s q))) where
       pub unmoved : r ≡ q
-      unmoved = after-refused q r n (R .onRecord s q) e .1
+      unmoved = after-refused q r x (R .onRecord s q) e .1
 
-      pub ends-refused : (w : Reached (Progress S)) → q .records ≤ q .at → q .at < length s → Leads w q → record { reached = r; stop = refusedFor n } ≡ w
+      pub ends-refused : (w : Reached (Progress S)) → q .records ≤ q .at → q .at < length s → Leads w q → record { reached = r; stop = refusedFor x } ≡ w
       ends-refused w c l h =
           let more : length s - q .records ≡ suc (length s - suc (q .records)) = omega arith in
-          ap (λ (p : Progress S). record { reached = p; stop = refusedFor n }) unmoved
-          ∙ sym (refuses R (length s - suc (q .records)) s q n l (after-refused q r n (R .onRecord s q) e .0)) ∙ (rw more at h)
+          ap (λ (p : Progress S). record { reached = p; stop = refusedFor x }) unmoved
+          ∙ sym (refuses R (length s - suc (q .records)) s q x l (after-refused q r x (R .onRecord s q) e .0)) ∙ (rw more at h)

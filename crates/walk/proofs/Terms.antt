@@ -6,6 +6,7 @@ use Prim.Native.Nat.{ℕ, _^_, _<_, _≤_}
 use lib.Dec.{leb, ltb}
 use lib.ListN.{length}
 use borrow.Author.Tests.{lt-leb, le-leb}
+use Rattle.refusal.specs.Refusal.{numbered, tooLong}
 use Rattle.refusal.specs.Outcome.{Stop, nothing, refusedFor, Reached, after}
 use Rattle.polynomial.specs.Polynomial.{sumOf}
 use Rattle.record.specs.Record.{whole, numberAt, maskIn}
@@ -20,7 +21,7 @@ module _ (n : ℕ) (s : List ℕ) (at : ℕ) (f : List ℕ) where
   abbrev told : Reached (List ℕ)
   told = after f (termAdded n s at f)
 
-  pub cut-short : maskIn s at ≡ Cut → stopped f (refusedFor 3) ≡ told
+  pub cut-short : maskIn s at ≡ Cut → stopped f (refusedFor (numbered 3)) ≡ told
   unfolding termAdded
   cut-short e = rw (mask-cut s at e)
 
@@ -31,16 +32,16 @@ module _ (n : ℕ) (s : List ℕ) (at : ℕ) (f : List ℕ) where
     is-number : numberAt 4 s at ≡ m
     is-number = mask-whole s at m e .1
 
-    pub unknown : ltb m (2 ^ n) ≡ false → stopped f (refusedFor 6) ≡ told
+    pub unknown : ltb m (2 ^ n) ≡ false → stopped f (refusedFor (numbered 6)) ≡ told
     unfolding termAdded
     unknown k = rw (is-whole, is-number, k)
 
     module _ (k : ltb m (2 ^ n) ≡ true) where
-      pub too-long : 64 < length (sumOf (m ∷ []) f) → stopped f (refusedFor 7) ≡ told
+      pub too-long : (r : ℕ) → r ≡ length (sumOf (m ∷ []) f) → 64 < r → stopped f (refusedFor (tooLong r)) ≡ told
       unfolding termAdded
-      too-long l =
-          let h : leb (length (sumOf (m ∷ []) f)) 64 ≡ false = lt-leb _ 64 l in
-          rw (is-whole, is-number, k, h)
+      too-long r z l =
+          let h : leb (length (sumOf (m ∷ []) f)) 64 ≡ false = lt-leb _ 64 (rw z at l) in
+          rw (is-whole, is-number, k, h, z)
 
       pub added : length (sumOf (m ∷ []) f) ≤ 64 → stopped (sumOf (m ∷ []) f) nothing ≡ told
       unfolding termAdded

@@ -9,31 +9,34 @@ use native.Mathlib.Omega.{arith}
 use lib.Dec.{T, leb, leb→le, nleb→lt, le→leb}
 use lib.ListN.{length, take}
 use lib.Seq.{length-take-le}
-use Rattle.refusal.specs.Outcome.{Outcome, accepted, refused, unless, mapped, Stop, nothing, refusedFor, Reached, refusedAt}
+use Rattle.refusal.specs.Refusal.{Refusal, numbered}
+use Rattle.refusal.specs.Outcome.{Outcome, accepted, refused, unlessFor, mapped, Stop, nothing, refusedFor, Reached, refusedAt}
+use Rattle.refusal.specs.Tests.{TellsTerms}
+use Rattle.refusal.specs.TestsLaws.{terms-told}
 use Rattle.run.specs.BooleanLaws.{is-true, is-false, of-true}
-use Rattle.walk.specs.Walk.{Progress, begun, Reader, next, over, walk, readAll, acceptedBytes, Refusal, verdict, onward, gathered}
+use Rattle.walk.specs.Walk.{Progress, begun, Reader, next, over, walk, readAll, acceptedBytes, RefusedNext, verdict, onward, gathered}
 
 -- ---- one outcome
 -- what holds of every refusal, and of what follows a test that holds, holds behind the test
-pub unless-ind : {A : Type 0} (P : Outcome A → Type 0) (b : Bool) (n : ℕ) {r : Outcome A} → ((n : ℕ) → P (refused n)) → (T b → P r) → P (unless b n r)
-unless-ind P true n nay yea = yea tt
-unless-ind P false n nay yea = nay n
+pub unless-ind : {A : Type 0} (P : Outcome A → Type 0) (b : Bool) (x : Refusal) {r : Outcome A} → ((x : Refusal) → P (refused x)) → (T b → P r) → P (unlessFor b x r)
+unless-ind P true x nay yea = yea tt
+unless-ind P false x nay yea = nay x
 
-pub mapped-ind : {A B : Type 0} (P : Outcome B → Type 0) (h : A → B) (r : Outcome A) → ((n : ℕ) → P (refused n))
-    → ((x : A) → r ≡ accepted x → P (accepted (h x))) → P (mapped h r)
-mapped-ind P h (accepted x) nay yea = yea x refl
-mapped-ind P h (refused n) nay yea = nay n
+pub mapped-ind : {A B : Type 0} (P : Outcome B → Type 0) (h : A → B) (r : Outcome A) → ((x : Refusal) → P (refused x))
+    → ((q : A) → r ≡ accepted q → P (accepted (h q))) → P (mapped h r)
+mapped-ind P h (accepted q) nay yea = yea q refl
+mapped-ind P h (refused x) nay yea = nay x
 
 -- what holds of what was accepted
 abbrev pub IfAccepted : {A : Type 0} → (A → Type 0) → Outcome A → Type 0
 IfAccepted Q (accepted q) = Q q
-IfAccepted Q (refused n) = Unit {0}
+IfAccepted Q (refused x) = Unit {0}
 
 module _ {S : Type 0} (R : Reader S) where
   -- ---- all records: what holds where a walk ends or is refused, and is carried back by each accepted record, holds of it and what it gathers
   pub walk-ind : {A : Type 0} (give : List ℕ → Progress S → Progress S → List A) (Q : Progress S → Reached (Progress S) → List A → Type 0) (s : List ℕ)
       → ((p : Progress S) → Q p (over R p) [])
-      → ((p : Progress S) (n : ℕ) → R .onRecord s p ≡ refused n → Q p (record { reached = p; stop = refusedFor n }) [])
+      → ((p : Progress S) (x : Refusal) → R .onRecord s p ≡ refused x → Q p (record { reached = p; stop = refusedFor x }) [])
       → ((p q : Progress S) (F : Reached (Progress S)) (C : List A) → R .onRecord s p ≡ accepted q → Q q F C → Q p F (give s p q ++ C))
       → (k : ℕ) (p : Progress S) → Q p (walk R k s p) (gathered R give k s p)
   unfolding walk gathered
@@ -44,22 +47,22 @@ module _ {S : Type 0} (R : Reader S) where
           → Q p (cond b (over R p) (next p (λ q. walk R k s q) r)) (cond b [] (onward (λ q. give s p q ++ gathered R give k s q) r))
       go true r e rest = atEnd p
       go false (accepted q) e rest = back p q (walk R k s q) (gathered R give k s q) e (rest q)
-      go false (refused n) e rest = atRefusal p n e
+      go false (refused x) e rest = atRefusal p x e
 
   -- what every accepted record keeps holds where a walk ends or is refused
   pub walk-keeps : (Q : Progress S → Type 0) (s : List ℕ) → ((p q : Progress S) → R .onRecord s p ≡ accepted q → Q p → Q q)
       → (k : ℕ) (p : Progress S) → Q p → Q ((walk R k s p) .reached)
-  walk-keeps Q s keeps = walk-ind {A = ℕ} (λ s p q. []) (λ p F C. Q p → Q (F .reached)) s (λ p h. h) (λ p n e h. h) (λ p q F C e rest h. rest (keeps p q e h))
+  walk-keeps Q s keeps = walk-ind {A = ℕ} (λ s p q. []) (λ p F C. Q p → Q (F .reached)) s (λ p h. h) (λ p x e h. h) (λ p q F C e rest h. rest (keeps p q e h))
 
   -- a walk that nothing stops reaches a state that is complete
   pub walk-complete : (k : ℕ) (s : List ℕ) (p : Progress S) → (walk R k s p) .stop ≡ nothing → T (R .complete ((walk R k s p) .reached .state))
   walk-complete k s = walk-ind {A = ℕ} (λ s p q. []) (λ p F C. F .stop ≡ nothing → T (R .complete (F .reached .state))) s
-      (λ p e. go (R .complete (p .state)) e) (λ p n d e. absurd (stopped e)) (λ p q F C e rest. rest) k
+      (λ p e. go (R .complete (p .state)) e) (λ p x d e. absurd (stopped e)) (λ p q F C e rest. rest) k
     where
-      stopped : {n : ℕ} → refusedFor n ≡ nothing → ⊥
+      stopped : {x : Refusal} → refusedFor x ≡ nothing → ⊥
       stopped e = let z : _≡_ {A = ℕ} 0 1 = cc in omega arith
 
-      go : (b : Bool) → cond b nothing (refusedFor 15) ≡ nothing → T b
+      go : (b : Bool) → cond b nothing (refusedFor (numbered 15)) ≡ nothing → T b
       go true e = tt
       go false e = absurd (stopped e)
 
@@ -76,10 +79,10 @@ module _ {S : Type 0} (R : Reader S) where
   unfolding walk
   steps j s p q h e = rw (more s p h, e)
 
-  pub refuses : (j : ℕ) (s : List ℕ) (p : Progress S) (n : ℕ) → p .at < length s → R .onRecord s p ≡ refused n
-      → walk R (suc j) s p ≡ record { reached = p; stop = refusedFor n }
+  pub refuses : (j : ℕ) (s : List ℕ) (p : Progress S) (x : Refusal) → p .at < length s → R .onRecord s p ≡ refused x
+      → walk R (suc j) s p ≡ record { reached = p; stop = refusedFor x }
   unfolding walk
-  refuses j s p n h e = rw (more s p h, e)
+  refuses j s p x h e = rw (more s p h, e)
 
   module _ {A : Type 0} (give : List ℕ → Progress S → Progress S → List A) (j : ℕ) (s : List ℕ) (p : Progress S) where
     pub gathers-none : length s ≤ p .at → gathered R give j s p ≡ []
@@ -95,10 +98,10 @@ module _ {S : Type 0} (R : Reader S) where
     gathers q h e = rw (more s p h, e)
 
   -- a record that is refused is passed in no number of turns
-  stays : (j : ℕ) (s : List ℕ) (p : Progress S) (n : ℕ) → p .at < length s → R .onRecord s p ≡ refused n → (walk R j s p) .reached ≡ p
+  stays : (j : ℕ) (s : List ℕ) (p : Progress S) (x : Refusal) → p .at < length s → R .onRecord s p ≡ refused x → (walk R j s p) .reached ≡ p
   unfolding walk
-  stays zero s p n h e = refl
-  stays (suc j) s p n h e = ap (λ (x : Reached (Progress S)). x .reached) (refuses j s p n h e)
+  stays zero s p x h e = refl
+  stays (suc j) s p x h e = ap (λ (w : Reached (Progress S)). w .reached) (refuses j s p x h e)
 
   -- a walk of more turns passes through where a walk of fewer comes
   pub passes : (i k : ℕ) (s : List ℕ) (p : Progress S) → (walk R (k + i) s p) .reached ≡ (walk R i s ((walk R k s p) .reached)) .reached
@@ -113,14 +116,14 @@ module _ {S : Type 0} (R : Reader S) where
           → (cond b (over R p) (next p (λ q. walk R (k + i) s q) r)) .reached ≡ (walk R i s ((cond b (over R p) (next p (λ q. walk R k s q) r)) .reached)) .reached
       go true a r e rest = sym (ap (λ (x : Reached (Progress S)). x .reached) (stops i s p (leb→le (length s) (p .at) (of-true a))))
       go false a (accepted q) e rest = rest q
-      go false a (refused n) e rest = sym (stays i s p n (nleb→lt (length s) (p .at) (rw a tt)) e)
+      go false a (refused x) e rest = sym (stays i s p x (nleb→lt (length s) (p .at) (rw a tt)) e)
 
   -- ---- what a refusal means: the end of the bytes before all was complete, or the record where the walk stopped, for its own reason
-  over-refused : (p : Progress S) (n : ℕ) → over R p .stop ≡ refusedFor n → n ≡ 15
-  over-refused p n e = go (R .complete (p .state)) e
+  over-refused : (p : Progress S) (x : Refusal) → over R p .stop ≡ refusedFor x → x ≡ numbered 15
+  over-refused p x e = go (R .complete (p .state)) e
     where
-      go : (b : Bool) → cond b nothing (refusedFor 15) ≡ refusedFor n → n ≡ 15
-      go true d = let z : _≡_ {A = ℕ} 0 1 = cc in let x : ⊥ = omega arith in absurd x
+      go : (b : Bool) → cond b nothing (refusedFor (numbered 15)) ≡ refusedFor x → x ≡ numbered 15
+      go true d = let z : _≡_ {A = ℕ} 0 1 = cc in let i : ⊥ = omega arith in absurd i
       go false d = cc
 
 -- ---- where a record ends, if it is accepted; one that is the same in the first K bytes, if it ends there, is accepted in them
@@ -141,17 +144,18 @@ module _ {S : Type 0} (R : Reader S) (L : Local R) where
   pub at-within : (k : ℕ) (s : List ℕ) (p : Progress S) → p .at ≤ length s → (walk R k s p) .reached .at ≤ length s
   at-within k s p h = walk-keeps R (λ q. q .at ≤ length s) s (λ a b e g. L .inside s a b e .1) k p h
 
-  pub refused-record : (k : ℕ) (s : List ℕ) (p : Progress S) (n : ℕ) → length s ≤ p .at + k → (walk R k s p) .stop ≡ refusedFor n → Refusal R s ((walk R k s p) .reached) n
+  pub refused-record : (k : ℕ) (s : List ℕ) (p : Progress S) (x : Refusal) → length s ≤ p .at + k → (walk R k s p) .stop ≡ refusedFor x
+      → RefusedNext R s ((walk R k s p) .reached) x
   unfolding walk
-  refused-record zero s p n h e = inl (omega arith, over-refused R p n e)
-  refused-record (suc k) s p n h e = go (leb (length s) (p .at)) refl (R .onRecord s p) refl (λ q l d. refused-record k s q n l d) e
+  refused-record zero s p x h e = inl (omega arith, over-refused R p x e)
+  refused-record (suc k) s p x h e = go (leb (length s) (p .at)) refl (R .onRecord s p) refl (λ q l d. refused-record k s q x l d) e
     where
       go : (b : Bool) → leb (length s) (p .at) ≡ b → (r : Outcome (Progress S)) → R .onRecord s p ≡ r
-          → ((q : Progress S) → length s ≤ q .at + k → (walk R k s q) .stop ≡ refusedFor n → Refusal R s ((walk R k s q) .reached) n)
-          → (cond b (over R p) (next p (λ q. walk R k s q) r)) .stop ≡ refusedFor n → Refusal R s ((cond b (over R p) (next p (λ q. walk R k s q) r)) .reached) n
-      go true a r f rest d = inl (leb→le (length s) (p .at) (of-true a), over-refused R p n d)
+          → ((q : Progress S) → length s ≤ q .at + k → (walk R k s q) .stop ≡ refusedFor x → RefusedNext R s ((walk R k s q) .reached) x)
+          → (cond b (over R p) (next p (λ q. walk R k s q) r)) .stop ≡ refusedFor x → RefusedNext R s ((cond b (over R p) (next p (λ q. walk R k s q) r)) .reached) x
+      go true a r f rest d = inl (leb→le (length s) (p .at) (of-true a), over-refused R p x d)
       go false a (accepted q) f rest d = rest q (omega (arith, L .inside s p q f .0)) d
-      go false a (refused m) f rest d = inr (nleb→lt (length s) (p .at) (rw a tt), cc)
+      go false a (refused y) f rest d = inr (nleb→lt (length s) (p .at) (rw a tt), cc)
 
   -- as many turns as there are accepted records, or fewer, accept just so many
   pub turns-records : (k j : ℕ) (s : List ℕ) (p : Progress S) → k + p .records ≤ (walk R j s p) .reached .records → (walk R k s p) .reached .records ≡ k + p .records
@@ -166,7 +170,7 @@ module _ {S : Type 0} (R : Reader S) (L : Local R) where
           → (cond b (over R p) (next p (λ q. walk R k s q) r)) .reached .records ≡ suc k + p .records
       go true r e rest l = let x : ⊥ = omega arith in absurd x
       go false (accepted q) e rest l = let d : q .records ≡ suc (p .records) = L .inside s p q e .2 in rest q (omega arith) ∙ omega arith
-      go false (refused n) e rest l = let x : ⊥ = omega arith in absurd x
+      go false (refused y) e rest l = let x : ⊥ = omega arith in absurd x
 
   -- ---- the bytes up to where a walk comes give the same walk, and end there
   -- from a progress on, with as many turns as bytes are left
@@ -188,7 +192,7 @@ module _ {S : Type 0} (R : Reader S) (L : Local R) where
 
   comes : (s : List ℕ) (k : ℕ) (p : Progress S) → Comes s p (walk R k s p)
   comes s = walk-ind R {A = ℕ} (λ s p q. []) (λ p F C. Comes s p F) s (λ p. comes-here s p (over R p) refl)
-      (λ p n e. comes-here s p (record { reached = p; stop = refusedFor n }) refl) (λ p q F C e rest. comes-back s p q F e rest)
+      (λ p x e. comes-here s p (record { reached = p; stop = refusedFor x }) refl) (λ p q F C e rest. comes-back s p q F e rest)
 
   -- wherever a walk comes in some number of turns, the bytes up to there are read to their end, and no record among them is refused
   pub records-prefix : (k : ℕ) (s : List ℕ) (x : S) → readAll R (take ((walk R k s (begun x)) .reached .at) s) x ≡ over R ((walk R k s (begun x)) .reached)
@@ -200,7 +204,13 @@ module _ {S : Type 0} (R : Reader S) (L : Local R) where
   pub accepted-bytes : (s : List ℕ) (x : S) → readAll R (acceptedBytes R s x) x ≡ over R ((readAll R s x) .reached)
   accepted-bytes s x = records-prefix (length s) s x
 
+-- ---- what refusal 7 tells is what the record tells that comes next: the end of the bytes is 15
+pub next-tells : {S : Type 0} (R : Reader S) (Q : ℕ → Type 0) (s : List ℕ) (p : Progress S) (x : Refusal) → RefusedNext R s p x → TellsTerms Q (R .onRecord s p) → x .number ≡ 7
+    → Q (x .detail)
+next-tells R Q s p x (inl e) h z = let i : ⊥ = omega (arith, ap (λ (y : Refusal). y .number) (e .1)) in absurd i
+next-tells R Q s p x (inr e) h z = terms-told Q (R .onRecord s p) x h (e .1) z
+
 -- ---- what is told tells how far the walk came, and what stopped it
-pub told-refused : {A : Type 0} (r : ℕ) (x : A) (t : Stop) (K n : ℕ) → verdict r x t ≡ refusedAt K n → (K ≡ suc r) × (t ≡ refusedFor n)
-told-refused r x nothing K n e = let z : _≡_ {A = ℕ} 0 1 = cc in let y : ⊥ = omega arith in absurd y
-told-refused r x (refusedFor m) K n e = (cc, cc)
+pub told-refused : {A : Type 0} (r : ℕ) (p : A) (t : Stop) (K : ℕ) (x : Refusal) → verdict r p t ≡ refusedAt K x → (K ≡ suc r) × (t ≡ refusedFor x)
+told-refused r p nothing K x e = let z : _≡_ {A = ℕ} 0 1 = cc in let y : ⊥ = omega arith in absurd y
+told-refused r p (refusedFor y) K x e = (cc, cc)

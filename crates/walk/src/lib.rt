@@ -45,7 +45,7 @@ pub fn add_term(variables: u32, bytes: &[u8], at: usize, work: &mut [u32], count
     }
     let sum = toggle(work, count, mask);
     if 64 < sum {
-        return refused(count, Reason::TooManyTerms);
+        return refused(count, Reason::TooManyTerms(sum as u64));
     }
     Work {
         count: sum,

@@ -8,7 +8,7 @@ use lib.ListN.{length, replicate}
 use borrow.Author.Needs.{needs}
 use Rattle.listing.specs.Words.{ascii}
 use Rattle.listing.proofs.Writes.{Still, all-still, next-written, rest-fits, rest-written}
-use Rattle.refusal.specs.Refusal.{numberOf}
+use Rattle.refusal.specs.Refusal.{refusalOf}
 use Rattle.refusal.specs.RefusalLaws.{number-most}
 use Rattle.report.specs.Report.{refusalText, filingText, lineOf}
 use Rattle.report.proofs.Texts.{refusal-short, by-value}
@@ -19,12 +19,12 @@ use Rattle.report.proofs.filing_line.Tie as tie
 
 -- what was refused
 abbrev refused : tie.After-answer → List ℕ
-refused c = refusalText (numberOf (c .answer .given .0 .1 .0)) (c .answer .given .0 .0)
+refused c = refusalText (refusalOf (c .answer .given .0 .1 .0)) (c .answer .given .0 .0)
 
 short : (c : tie.After-answer) → length (ascii "problem " ++ refused c) ≤ 64
 short c =
     let a = c .answer .given .0 in
-    omega (arith, refusal-short (numberOf (a .1 .0)) (a .0) (number-most (a .1 .0)))
+    omega (arith, refusal-short (refusalOf (a .1 .0)) (a .0) (number-most (a .1 .0)))
 
 said : (c : tie.After-put-bytes) → (let k = c .before .before .before .before in Still (replicate 64 0) 0 (ascii "problem " ++ refused k) (c .put-bytes .last .0) (c .put-bytes .result) (refused k))
 said c =

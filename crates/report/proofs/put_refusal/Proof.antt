@@ -7,14 +7,14 @@ use borrow.Author.Needs.{needs}
 use Rattle.listing.specs.Words.{ascii}
 use Rattle.listing.specs.Listing.{decimal}
 use Rattle.listing.proofs.Writes.{Still, all-still, next-fits, next-written, rest-written}
-use Rattle.refusal.specs.Refusal.{numberOf}
+use Rattle.refusal.specs.Refusal.{refusalOf}
 use Rattle.report.specs.Report.{refusalText}
 use Rattle.report.proofs.Texts.{refusal-parts}
 use Rattle.report.proofs.put_refusal.Statement.{statement}
 use Rattle.report.proofs.put_refusal.Tie as tie
 
 abbrev whole : tie.Start → List ℕ
-whole s = refusalText (numberOf (s .args .reason)) (s .args .place)
+whole s = refusalText (refusalOf (s .args .reason)) (s .args .place)
 
 -- the text from the place's number on, and from the second word on
 abbrev last : tie.Start → List ℕ
@@ -32,7 +32,7 @@ begun c =
     let s = c .before .before in
     let a = s .args in
     all-still (a .out .now) (a .at) (whole s) (ascii "refused " ++ (decimal (c .number .result) ++ second s))
-    (refusal-parts (numberOf (a .reason)) (a .place) ∙ ap (λ (n : ℕ). ascii "refused " ++ (decimal n ++ second s)) (sym (c .number .ensures))) (s .pre)
+    (refusal-parts (refusalOf (a .reason)) (a .place) ∙ ap (λ (n : ℕ). ascii "refused " ++ (decimal n ++ second s)) (sym (c .number .ensures))) (s .pre)
 
 said : (c : tie.After-put-bytes) → (let s = c .before .before .before .before .before in Rest s (c .put-bytes .last .0) (c .put-bytes .result) (decimal (c .before .before .before .number .result) ++ second s))
 said c =

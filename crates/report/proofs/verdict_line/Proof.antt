@@ -8,7 +8,7 @@ use lib.ListN.{length}
 use mir.Syntax.{w64}
 use mir.Val.{toZ, ofZ}
 use borrow.Author.Needs.{needs}
-use Rattle.refusal.specs.Refusal.{numberOf}
+use Rattle.refusal.specs.Refusal.{Refusal, refusalOf}
 use Rattle.refusal.specs.RefusalLaws.{number-most}
 use Rattle.report.specs.Report.{refusalText, confirmedText, verdictText, lineOf}
 use Rattle.report.proofs.Texts.{refusal-short, confirmed-short, by-value}
@@ -38,7 +38,7 @@ slice-aggregate-put-refusal c = search needs
 put-refusal-requires : tie.Need-put-refusal-requires
 put-refusal-requires c κs =
     let a = c .before .before .answer2 .given .0 in
-    omega (arith, refusal-short (numberOf (a .1 .0)) (a .0) (number-most (a .1 .0)))
+    omega (arith, refusal-short (refusalOf (a .1 .0)) (a .0) (number-most (a .1 .0)))
 
 returns : tie.Need-returns
 returns c =
@@ -53,10 +53,10 @@ returns c =
 returns-2 : tie.Need-returns-2
 returns-2 c =
     let a = c .before .before .before .before .answer2 .given in
-    let n : ℕ = numberOf (a .0 .1 .0) in
+    let x : Refusal = refusalOf (a .0 .1 .0) in
     let h = c .before .put-refusal in
-    by-value (refusalText n (a .0 .0)) (h .last .0) (h .result) (omega (arith, refusal-short n (a .0 .0) (number-most (a .0 .1 .0))))
-    (h .ensures .0 ∙ zero-add (length (refusalText n (a .0 .0))), h .ensures .1)
+    by-value (refusalText x (a .0 .0)) (h .last .0) (h .result) (omega (arith, refusal-short x (a .0 .0) (number-most (a .0 .1 .0))))
+    (h .ensures .0 ∙ zero-add (length (refusalText x (a .0 .0))), h .ensures .1)
     ∙ ap (λ (x : CheckAnswer). lineOf (verdictText (toldOfCheck x))) (sym (a .1))
 
 pub verdict-line-spec : {M : Type 1} → statement M

@@ -1,6 +1,5 @@
 -- `change` meets its contract: a plan that does not fit changes nothing, and the table of a plan that fits has the rule's changes, folded among themselves.
 use mathlib.Core.Path.{_≡_, refl, sym, ap, subst, _∙_}
-use mathlib.Core.Bool.{Bool, true}
 use mathlib.Core.List.{List, [], _∷_}
 use lib.IntN.{pos}
 use lib.ListN.{replicate}
@@ -8,8 +7,9 @@ use native.Mathlib.Omega.{arith}
 use denote.Ref.{now}
 use mir.Facts.{toZ-ofZ}
 use borrow.Author.Needs.{needs}
-use borrow.Author.Tests.{not-true, not-false}
-use Rattle.refusal.specs.Outcome.{Outcome, unless, after}
+use Rattle.refusal.specs.Outcome.{Outcome, after, objected}
+use Rattle.refusal.specs.declared.Objection.{Objection}
+use Rattle.refusal.specs.declared.Objection.the-variants.{Nothing}
 use Rattle.configuration.specs.Configuration.{Line, addAll}
 use Rattle.configuration.specs.Limits.{within}
 use Rattle.replacement.specs.Passes.{Small}
@@ -28,9 +28,9 @@ table s = let a = s .args in record { lines = a .lines; order = now (a .order); 
 abbrev ruled : tie.Start → List Line
 ruled s = changes (s .args .rule) (now (s .args .f)) (now (s .args .g)) (s .args .amount)
 
--- what follows the plan, by whether the results are short enough
-abbrev rest-if : tie.Start → Bool → Outcome (List Line)
-rest-if s b = unless b 7 (within (addAll (ruled s) (linesOf (table s))))
+-- what follows the plan, by what was found against the results
+abbrev rest-if : tie.Start → Objection → Outcome (List Line)
+rest-if s o = objected o (within (addAll (ruled s) (linesOf (table s))))
 
 -- the table of four that is lent: it has no line
 empty : Fits 4 (record { lines = 0; order = 0 ∷ 1 ∷ 2 ∷ 3 ∷ []; terms = replicate 256 0; weights = replicate 4 (pos 0); counts = replicate 4 0 })
@@ -52,18 +52,18 @@ four c =
       counts = r .last .1 .1 .1 .1 .1 .1 .1 .0;
     }
 
-planned : (c : tie.After-plan-of) → (let a = start c .args in HasPlan (a .rule) (now (a .f)) (now (a .g)) (a .amount) (c .plan-of .result .fits) (four c))
+planned : (c : tie.After-plan-of) → (let a = start c .args in HasPlan (a .rule) (now (a .f)) (now (a .g)) (a .amount) (c .plan-of .result .objection) (four c))
 planned c = rw (toZ-ofZ (start c .fits .amount)) at (c .plan-of .ensures)
 
--- a plan that fits
-abbrev plan : tie.Else1 → tie.After-plan-of
+-- a plan against which nothing is found
+abbrev plan : tie.After-enum-told → tie.After-plan-of
 plan c = c .before .before .before .before .before .before
 
-fits : (c : tie.Else1) → plan c .plan-of .result .fits ≡ true
-fits c = not-false (plan c .plan-of .result .fits) (c .if1 .left)
+fits : (c : tie.After-enum-told) → plan c .plan-of .result .objection ≡ Nothing
+fits c = c .enum-told .given .1
 
-four-lines : (c : tie.Else1) → linesOf (four (plan c)) ≡ addAll (ruled (start (plan c))) []
-four-lines c = let a = start (plan c) .args in made-lines (a .rule) (now (a .f)) (now (a .g)) (a .amount) (planned (plan c)) (fits c)
+four-lines : (c : tie.After-enum-told) → linesOf (four (plan c)) ≡ addAll (ruled (start (plan c))) []
+four-lines c = let a = start (plan c) .args in made-lines (a .rule) (now (a .f)) (now (a .g)) (a .amount) _ (planned (plan c)) (fits c)
 
 slice-aggregate-plan-of : tie.Need-slice-aggregate-plan-of
 slice-aggregate-plan-of c = refl
@@ -82,11 +82,17 @@ plan-of-requires c κs =
     let s = c .before .before .before .before .before .before .before .before .before in
     (s .pre .2, s .pre .3, rw (toZ-ofZ (s .fits .amount)) (s .pre .4), empty)
 
+enum-known-objection : tie.Need-enum-known-objection
+enum-known-objection c = search needs
+
 returns : tie.Need-returns
 returns c =
-    let k = c .before .before .before .before .before .before in
+    let k = c .before .before .before .before .before .before .before in
     let s = start k in
-    (ap (λ (b : Bool). after (linesOf (table s)) (rest-if s b)) (sym (not-true (k .plan-of .result .fits) (c .if1 .taken)) ∙ planned k .0), s .pre .0)
+    (ap (λ (o : Objection). after (linesOf (table s)) (rest-if s o)) (sym (c .before .objection .given .1)) ∙ ap (after (linesOf (table s))) (planned k .0 _), s .pre .0)
+
+enum-told : tie.Need-enum-told
+enum-told c = search needs
 
 slice-aggregate-replace : tie.Need-slice-aggregate-replace
 slice-aggregate-replace c = sym (planned (plan (c .before .before .before .before .before)) .1 .1 .order-length)
@@ -128,7 +134,7 @@ returns-2 c =
     let L = linesOf (table s) in
     let r = d .replace in (
       r .ensures .0 ∙ ap (λ (N : List Line). after L (within (addAll N L))) (four-lines k) ∙ changed-is (ruled s) L (s .pre .0 .ordered)
-          ∙ ap (λ (b : Bool). after L (rest-if s b)) (sym (fits k) ∙ planned (plan k) .0),
+          ∙ ap (λ (o : Objection). after L (rest-if s o)) (sym (fits k)) ∙ ap (after L) (planned (plan k) .0 _),
       r .ensures .1,
     )
 
@@ -141,7 +147,9 @@ change-spec =
     slice-aggregate-plan-of-3
     slice-aggregate-plan-of-4
     plan-of-requires
+    enum-known-objection
     returns
+    enum-told
     slice-aggregate-replace
     slice-aggregate-replace-2
     slice-aggregate-replace-3

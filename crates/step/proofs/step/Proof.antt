@@ -9,9 +9,10 @@ use Rattle.refusal.specs.Outcome.{Outcome, after, objected}
 use Rattle.refusal.specs.declared.Objection.{Objection}
 use Rattle.configuration.specs.Weight.{inRange}
 use Rattle.configuration.specs.Configuration.{Line}
-use Rattle.calculus.specs.Calculus.{changed, step}
+use Rattle.calculus.specs.Calculus.{modeTests, changed, step}
 use Rattle.table.specs.Rows.{Table, linesOf}
-use Rattle.step.proofs.Tests.{Judged, objected-is, in-range}
+use Rattle.step.specs.Stepping.{Finds}
+use Rattle.step.proofs.Tests.{objected-is, in-range}
 use Rattle.step.proofs.step.Statement.{statement}
 use Rattle.step.proofs.step.Tie as tie
 
@@ -27,7 +28,7 @@ abbrev begun : tie.After-object → tie.Start
 begun c = c .before .before .before .before .before .before .before .before .before .before
 
 judged : (c : tie.After-object)
-    → (let a = begun c .args in Judged (a .rule) (a .mode) (now (a .f)) (now (a .g)) (a .amount) (linesOf (table (begun c))) (c .object .result))
+    → (let a = begun c .args in Finds (modeTests (a .rule) (a .mode) (now (a .f)) (now (a .g)) (a .amount) (linesOf (table (begun c)))) (c .object .result))
 judged c = rw (toZ-ofZ (begun c .fits .amount)) at (c .object .ensures)
 
 found : (c : tie.After-object)

@@ -79,7 +79,7 @@ returns-3 c =
     let f = take (a .count) (now (a .work)) in
     let l : 64 < k .toggle .result = omega arith in
     rw (c .refused3 .ensures, k .toggle .ensures .1 .1 (rw (s .pre .0) l))
-    (too-long (a .variables) (now (a .bytes)) (a .at) f _ (read k) (known k) (rw (k .toggle .ensures .0) at l), s .pre .1)
+    (too-long (a .variables) (now (a .bytes)) (a .at) f _ (read k) (known k) _ (k .toggle .ensures .0) l, s .pre .1)
 
 same-length-2 : tie.Need-same-length-2
 same-length-2 c = search needs

@@ -8,6 +8,7 @@ use borrow.Author.Tests.{eq-eqb, ne-eqb}
 use borrow.Author.Needs.{needs}
 use Rattle.memory.specs.Memory.{memoryOf, backToBack, imageOf}
 use Rattle.memory.specs.declared.Entry.{Entry}
+use Rattle.refusal.specs.Refusal.{numbered}
 use Rattle.refusal.specs.Outcome.{refusedAt}
 use Rattle.problem.specs.Problem.{fileProblem, toldOfFiling}
 use Rattle.checker.specs.Checker.{leftOf, lent, fileIn}
@@ -17,7 +18,7 @@ use Rattle.checker.proofs.filing.on_entries.Statement.{statement}
 use Rattle.checker.proofs.filing.on_entries.Tie as tie
 
 module _ (s ts : List ℕ) (t : List Entry) where
-  too-long : (length ts ≡ 8192 → ⊥) → leftOf (lent ts t) (refusedAt 0 1) ≡ fileIn s (lent ts t)
+  too-long : (length ts ≡ 8192 → ⊥) → leftOf (lent ts t) (refusedAt 0 (numbered 1)) ≡ fileIn s (lent ts t)
   too-long h = sym (file-unsized backToBack s (lent ts t) (rw (ne-eqb (length ts) 8192 h)))
 
   long-enough : length ts ≡ 8192 → length t ≡ 128 → (let x = fileProblem s in leftOf (imageOf (x .variables) (x .lines)) (x .told) ≡ fileIn s (lent ts t))

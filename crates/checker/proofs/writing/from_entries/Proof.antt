@@ -56,7 +56,7 @@ returns-2 : tie.Need-returns-2
 returns-2 c =
     let s = c .before .before .before .before .before .before .before in
     let a = s .args in
-    ap (λ (o : Outcome (List ℕ)). out s o) (unless-fails (leb (a .number) (a .head .lines)) 17 (fitted s) (lt-leb (a .number) (a .head .lines) (c .if1 .taken)))
+    ap (λ (o : Outcome (List ℕ)). out s o) (unless-fails (leb (a .number) (a .head .lines)) _ (fitted s) (lt-leb (a .number) (a .head .lines) (c .if1 .taken)))
     ∙ found-none (c .before .before)
 
 written-requires : tie.Need-written-requires
@@ -71,7 +71,7 @@ returns-3 c =
     let a = s .args in
     c .before .before .written .ensures
     ∙ ap (λ (o : Outcome (List ℕ)). out s o)
-    (unless-passes (leb (a .number) (a .head .lines)) 17 (fitted s) (fitted s) (le-leb (a .number) (a .head .lines) (c .before .before .before .before .if1 .left)) refl)
+    (unless-passes (leb (a .number) (a .head .lines)) _ (fitted s) (fitted s) (le-leb (a .number) (a .head .lines) (c .before .before .before .before .if1 .left)) refl)
     ∙ found-none (c .before .before .before .before .before .before)
 
 pub from-entries-spec : {M : Type 1} → statement M

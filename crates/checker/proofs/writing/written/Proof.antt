@@ -9,6 +9,7 @@ use lib.ListN.{length, take, drop}
 use denote.Ref.{now}
 use borrow.Author.Tests.{le-leb, lt-leb}
 use borrow.Author.Needs.{needs}
+use Rattle.refusal.specs.Refusal.{numbered}
 use Rattle.refusal.specs.Outcome.{answered, refusedAt}
 use Rattle.configuration.specs.Configuration.{Line}
 use Rattle.table.specs.Rows.{Table, linesOf, Fits}
@@ -39,7 +40,7 @@ front z last text size e k = rw (sub-zero size, e, k) (written-front z text)
 
 -- the text is longer than the area, or it fits
 module _ (area text : List ℕ) (size : ℕ) (e : size ≡ length text) where
-  too-long : length area < size → record { area = area; told = refusedAt 0 14 } ≡ writtenBy area (fitting area text)
+  too-long : length area < size → record { area = area; told = refusedAt 0 (numbered 14) } ≡ writtenBy area (fitting area text)
   too-long h = rw (lt-leb (length text) (length area) (omega (arith, h, e)))
 
   fits-in : size ≤ length area → (out : List ℕ) → out ≡ overwritten area 0 text → record { area = out; told = answered size } ≡ writtenBy area (fitting area text)

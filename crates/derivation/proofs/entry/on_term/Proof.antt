@@ -7,7 +7,7 @@ use lib.ListN.{length}
 use denote.Ref.{now}
 use borrow.Author.Tests.{not-true, not-false}
 use borrow.Author.Needs.{needs}
-use Rattle.refusal.specs.Refusal.{numberOf}
+use Rattle.refusal.specs.Refusal.{refusalOf}
 use Rattle.refusal.specs.declared.Reason.the-variants.{Misplaced}
 use Rattle.walk.proofs.Adds.{term-refused, term-unmoved, term-accepted}
 use Rattle.derivation.specs.Derivation.{onTerm}
@@ -77,7 +77,7 @@ returns-2 c fs t held =
     let d = term-refused n b (p .at + 1) us (p .work) (last k) (q .result) (q .ensures .0) reason e in
     let same = term-unmoved n b (p .at + 1) us (p .work) (last k) (q .result) (q .ensures .0) reason e (s .pre .2) (s .pre .3) (long k) (q .ensures .1) in
     refused-in p fs us t held reason (c .refused2 .result) (c .refused2 .ensures) (onTerm n b (progressIn p fs us t))
-    (term-down n b p fs us t (is-going k) (numberOf reason) d) (last k) (long k) same
+    (term-down n b p fs us t (is-going k) (refusalOf reason) d) (last k) (long k) same
 
 enum-told : tie.Need-enum-told
 enum-told c = search needs

@@ -17,7 +17,7 @@ use Rattle.polynomial.specs.Polynomial.{termsOf, clauseOf}
 use Rattle.polynomial.specs.declared.Measured.{Measured}
 use Rattle.record.specs.Record.{clauseIn}
 use Rattle.record.specs.declared.Clause.the-variants.{Whole}
-use Rattle.refusal.specs.Refusal.{numberOf}
+use Rattle.refusal.specs.Refusal.{refusalOf}
 use Rattle.refusal.specs.Outcome.{refused}
 use Rattle.refusal.specs.declared.Reason.{Reason}
 use Rattle.refusal.specs.declared.Objection.the-variants.{Found, Nothing}
@@ -33,7 +33,7 @@ use Rattle.problem.proofs.read.read_clause.Tie as tie
 
 -- a refusal, for the reason that the definition has
 refuse : (s : tie.Start) (reason : Reason) (r : Weighted) → r .objection ≡ Found reason
-    → ((us : List ℕ) (t : Table) → refused (numberOf reason) ≡ onClause (now (s .args .bytes)) (progressIn (s .args .p) us t))
+    → ((us : List ℕ) (t : Table) → refused (refusalOf reason) ≡ onClause (now (s .args .bytes)) (progressIn (s .args .p) us t))
     → Brings (onClause (now (s .args .bytes))) (s .args .p) 17 (s .args .p .work) (λ us. termsOf (r .polynomial)) (r .weight) (r .objection)
     × (r .objection ≡ Nothing → T (weightFits (r .weight)))
 refuse s reason r = found (onClause (now (s .args .bytes))) (s .args .p) 17 (s .args .p .work) (λ us. termsOf (r .polynomial)) (r .weight) (r .objection) reason
@@ -155,9 +155,9 @@ returns-6 c =
     let s = start k in
     let r = c .before .before .before .clause in
     let n : r .result .length ≡ length (clauseOf (plain k) (negated k)) = ap (λ (o : Measured). o .length) (r .ensures) in
-    refuse s R.TooManyTerms (c .no-polynomial6 .result) (ap (λ (w : Weighted). w .objection) (c .no-polynomial6 .ensures))
+    refuse s (R.TooManyTerms (r .result .length)) (c .no-polynomial6 .result) (ap (λ (w : Weighted). w .objection) (c .no-polynomial6 .ensures))
     (λ us t. clause-long (now (s .args .bytes)) (progressIn (s .args .p) us t) (begun k) (plain k) (negated k) (weight k) (read k) (plain-known k) (negated-known k)
-    (sym (fits k) ∙ not-false _ (c .before .before .before .before .if4 .left)) (rw n at (c .before .if5 .taken)))
+    (sym (fits k) ∙ not-false _ (c .before .before .before .before .if4 .left)) (r .result .length) n (c .before .if5 .taken))
 
 returns-7 : tie.Need-returns-7
 returns-7 c =

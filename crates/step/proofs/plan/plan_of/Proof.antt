@@ -1,20 +1,20 @@
 -- `plan_of` meets its contract: each rule has its plan.
 use mathlib.Core.Path.{_≡_, sym, subst}
-use mathlib.Core.Bool.{Bool}
 use denote.Ref.{now}
 use mir.Facts.{toZ-ofZ}
 use borrow.Author.Needs.{needs}
+use Rattle.refusal.specs.declared.Objection.{Objection}
 use Rattle.calculus.specs.declared.Rule.{Rule}
 use Rattle.table.specs.Rows.{Table}
 use Rattle.step.specs.Stepping.{HasPlan}
 use Rattle.step.proofs.plan.plan_of.Statement.{statement}
 use Rattle.step.proofs.plan.plan_of.Tie as tie
 
-by-rule : (s : tie.Start) {r : Rule} {b : Bool} {t : Table} → s .args .rule ≡ r
-    → (let a = s .args in HasPlan r (now (a .f)) (now (a .g)) (a .amount) b t → HasPlan (a .rule) (now (a .f)) (now (a .g)) (a .amount) b t)
-by-rule s {b = b} {t = t} e m =
+by-rule : (s : tie.Start) (r : Rule) (found : Objection) (t : Table) → s .args .rule ≡ r
+    → (let a = s .args in HasPlan r (now (a .f)) (now (a .g)) (a .amount) found t → HasPlan (a .rule) (now (a .f)) (now (a .g)) (a .amount) found t)
+by-rule s r found t e m =
     let a = s .args in
-    subst (λ (r : Rule). HasPlan r (now (a .f)) (now (a .g)) (a .amount) b t) (sym e) m
+    subst (λ (r : Rule). HasPlan r (now (a .f)) (now (a .g)) (a .amount) found t) (sym e) m
 
 enum-told : tie.Need-enum-told
 enum-told c = search needs
@@ -44,7 +44,7 @@ returns : tie.Need-returns
 returns c =
     let k = c .before .before .before .before .before .before .before in
     let s = k .before .before .before .before .before .before .before .before .before .before .before .before in
-    by-rule s (k .before .before .before .before .before .enum-told .given .1) (rw (toZ-ofZ (s .fits .amount)) at (k .plan-sum .ensures))
+    by-rule s _ (k .plan-sum .result .objection) _ (k .before .before .before .before .before .enum-told .given .1) (rw (toZ-ofZ (s .fits .amount)) at (k .plan-sum .ensures))
 
 same-length-5 : tie.Need-same-length-5
 same-length-5 c = search needs
@@ -62,7 +62,7 @@ returns-2 : tie.Need-returns-2
 returns-2 c =
     let k = c .before .before .before .before .before .before .before in
     let s = k .before .before .before .before .before .before .before .before .before .before .before .before in
-    by-rule s (k .before .before .before .before .before .enum-told2 .given .1) (rw (toZ-ofZ (s .fits .amount)) at (k .plan-prod .ensures))
+    by-rule s _ (k .plan-prod .result .objection) _ (k .before .before .before .before .before .enum-told2 .given .1) (rw (toZ-ofZ (s .fits .amount)) at (k .plan-prod .ensures))
 
 pub plan-of-spec : {M : Type 1} → statement M
 plan-of-spec =

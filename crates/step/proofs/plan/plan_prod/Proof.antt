@@ -1,12 +1,10 @@
--- `plan_prod` meets its contract: a result of more than 64 terms does not fit, one of no terms leaves the table empty, and otherwise the table has the
+-- `plan_prod` meets its contract: a result of more than 64 terms is told, f g first, one of no terms leaves the table empty, and otherwise the table has the
 -- three changes of the rule, one after another, since f + f g is f (g + 1).
 use mathlib.Core.Path.{_≡_, refl, sym, ap, _∙_}
 use mathlib.Core.Logic.{_⊎_, inl, inr}
-use mathlib.Core.Bool.{true, false}
 use mathlib.Core.List.{List, [], _∷_}
 use Prim.Native.Nat.{ℕ, _≤_}
 use native.Mathlib.Omega.{arith}
-use lib.Dec.{leb}
 use lib.IntN.{pos, _-ℤ_, negℤ}
 use lib.ListN.{length, take}
 use lib.Seq.{length-take-le}
@@ -15,16 +13,20 @@ use mir.Syntax.{w64}
 use mir.Val.{toZ, ofZ}
 use mir.Facts.{toZ-ofZ}
 use borrow.Author.Needs.{needs}
+use Rattle.refusal.specs.declared.Objection.{Objection}
+use Rattle.refusal.specs.declared.Objection.the-variants.{Nothing, Found}
+use Rattle.refusal.specs.declared.Reason.the-variants.{TooManyTerms}
 use Rattle.polynomial.specs.Polynomial.{ONE, sumOf, productOf}
 use Rattle.polynomial.specs.PolynomialLaws.{exact}
 use Rattle.configuration.specs.Configuration.{Line, negated}
+use Rattle.configuration.specs.Limits.{short}
 use Rattle.replacement.specs.Passes.{Small}
-use Rattle.calculus.specs.Calculus.{conclusions, changes, allShort}
+use Rattle.calculus.specs.Calculus.{conclusions, changes, lengthTests}
 use Rattle.calculus.specs.declared.Rule.the-variants.{Prod}
 use Rattle.table.specs.Rows.{Table}
-use Rattle.step.specs.Stepping.{HasPlan}
+use Rattle.step.specs.Stepping.{Finds, HasPlan}
 use Rattle.step.proofs.Amounts.{negated-fits, negated-is, small-changes}
-use Rattle.step.proofs.Plans.{room, long, short, plus-one, Folded, folded-none, fold-asked, fold-given, made, made-none}
+use Rattle.step.proofs.Plans.{too-long, not-long, room, plus-one, Folded, folded-none, fold-asked, fold-given, made-none}
 use Rattle.step.proofs.plan.plan_prod.Statement.{statement}
 use Rattle.step.proofs.plan.plan_prod.Tie as tie
 
@@ -77,8 +79,10 @@ told-product c =
     let s = c .before .before .before .before .before .before .before in
     exact (left s ∷ right s ∷ []) (product s) _ _ _ (s .pre .0 .0, (s .pre .1 .0, tt)) (c .product2 .ensures)
 
-product-short : (c : tie.Else1) → leb (length (product (opened c))) 64 ≡ true
-product-short c = short (c .before .product2 .result) (product (opened c)) (told-product (c .before) .0) (c .if1 .left)
+-- what is found against the other result is found
+past-product : (c : tie.Else1) (found : Objection)
+    → (let s = opened c in Finds (short (rest s) ∷ []) found → Finds (lengthTests (conclusions Prod (left s) (right s) (s .args .amount))) found)
+past-product c found = let s = opened c in not-long _ (product s) (told-product (c .before) .0) (short (rest s) ∷ []) found (c .if1 .left)
 
 -- f g, as it is lent
 abbrev lent : tie.Else1 → List ℕ
@@ -110,13 +114,12 @@ past c = c .before .before .before .before
 abbrev begun : tie.Else2 → tie.Start
 begun c = opened (past c)
 
-fits : (c : tie.Else2) → allShort (conclusions Prod (left (begun c)) (right (begun c)) (begun c .args .amount)) ≡ true
-unfolding allShort
-fits c = rw (product-short (past c), short (c .before .sum .result) (rest (begun c)) (rest-size (c .before)) (c .if2 .left))
+fits : (c : tie.Else2) → Finds (lengthTests (conclusions Prod (left (begun c)) (right (begun c)) (begun c .args .amount))) Nothing
+fits c = past-product (past c) Nothing (not-long _ (rest (begun c)) (rest-size (c .before)) [] Nothing (c .if2 .left) (λ o. refl))
 
 -- where one of them is 0 nothing changes
 nothing : (c : tie.Else2)
-    → (let s = begun c in (length (product s) ≡ 0) ⊎ (length (rest s) ≡ 0) → HasPlan Prod (left s) (right s) (s .args .amount) true (table s))
+    → (let s = begun c in (length (product s) ≡ 0) ⊎ (length (rest s) ≡ 0) → HasPlan Prod (left s) (right s) (s .args .amount) Nothing (table s))
 nothing c = let s = begun c in made-none (left s) (right s) (s .args .amount) (none s) (s .pre .0 .1) (fits c)
 
 -- ---- the table after each change
@@ -164,19 +167,20 @@ three c =
     let s = begun k in
     fold-given (two (past-two (c .before .before .before .before .before))) (omega arith) (third k) (gained s) (small s .1 .1 .0) (c .fold-in3 .ensures)
 
-abbrev last : tie.After-slice-known12 → tie.After-fold-in3
-last c = c .before .before .before .before .before .before .before
+abbrev last : tie.After-ready3 → tie.After-fold-in3
+last c = c .before .before .before .before .before .before .before .before
 
 product-requires : tie.Need-product-requires
 product-requires c κs = search needs
 
+too-long-requires : tie.Need-too-long-requires
+too-long-requires c κs = search needs
+
 returns : tie.Need-returns
-unfolding allShort
 returns c =
-    let k = c .before in
+    let k = c .before .before in
     let s = k .before .before .before .before .before .before .before in
-    let e = long (k .product2 .result) (product s) (told-product k .0) (c .if1 .taken) in
-    made Prod (left s) (right s) (s .args .amount) false (rw e) (none s)
+    rw (c .too-long .ensures) (too-long (k .product2 .result) (product s) (told-product k .0) (short (rest s) ∷ []) (c .before .if1 .taken), none s .holds)
 
 array-share-prefix-product : tie.Need-array-share-prefix-product
 array-share-prefix-product c = room _ _ _ (told-product (c .before)) (c .if1 .left)
@@ -187,24 +191,32 @@ slice-aggregate-p c = sym (length-take-le _ _ (array-share-prefix-product (c .be
 sum-requires : tie.Need-sum-requires
 sum-requires c κs = search needs
 
+too-long-requires-2 : tie.Need-too-long-requires-2
+too-long-requires-2 c κs = search needs
+
 returns-2 : tie.Need-returns-2
-unfolding allShort
 returns-2 c =
-    let k = c .before in
+    let k = c .before .before in
     let o = k .before .before .before in
     let s = opened o in
-    let d = long (k .sum .result) (rest s) (rest-size k) (c .if2 .taken) in
-    made Prod (left s) (right s) (s .args .amount) false (rw (product-short o, d)) (none s)
+    let e = too-long (k .sum .result) (rest s) (rest-size k) [] (c .before .if2 .taken) in
+    rw (c .too-long2 .ensures) (past-product o (Found (TooManyTerms (k .sum .result))) e, none s .holds)
+
+ready-requires : tie.Need-ready-requires
+ready-requires c κs = search needs
 
 returns-3 : tie.Need-returns-3
 returns-3 c =
-    let k = c .before .before in
-    nothing k (inl (sym (told-product (past k .before) .0) ∙ c .if3 .taken))
+    let k = c .before .before .before in
+    rw (c .ready .ensures) (nothing k (inl (sym (told-product (past k .before) .0) ∙ c .before .if3 .taken)))
+
+ready-requires-2 : tie.Need-ready-requires-2
+ready-requires-2 c κs = search needs
 
 returns-4 : tie.Need-returns-4
 returns-4 c =
-    let k = c .before .before .before .before in
-    nothing k (inr (sym (rest-size (k .before)) ∙ c .if4 .taken))
+    let k = c .before .before .before .before .before in
+    rw (c .ready2 .ensures) (nothing k (inr (sym (rest-size (k .before)) ∙ c .before .if4 .taken)))
 
 sub-fold-in : tie.Need-sub-fold-in
 sub-fold-in c = let s = begun (c .before .before .before .before .before .before .before .before) in rw (gained s) (negated-fits (s .args .amount) (s .pre .2))
@@ -237,6 +249,9 @@ fold-in-requires-3 c κs =
     let s = begun k in
     fold-asked (two (past-two h)) (omega arith) (third k) (gained s) (small s .1 .1 .0) (omega (arith, rest-size (k .before), k .if2 .left))
 
+ready-requires-3 : tie.Need-ready-requires-3
+ready-requires-3 c κs = search needs
+
 same-length : tie.Need-same-length
 same-length c = three (last c) .holds .1 .order-length ∙ sym (begun (at-three (last c)) .pre .3 .order-length)
 
@@ -251,19 +266,23 @@ same-length-4 c = three (last c) .holds .1 .counts-length ∙ sym (begun (at-thr
 
 returns-5 : tie.Need-returns-5
 unfolding negated
-returns-5 c = let k = at-three (last c) in let s = begun k in made Prod (left s) (right s) (s .args .amount) true (fits k) (three (last c))
+returns-5 c = rw (c .ready3 .ensures) (fits (at-three (last c)), three (last c) .holds)
 
 pub plan-prod-spec : {M : Type 1} → statement M
 plan-prod-spec =
     tie.close
     (tie.spec
     product-requires
+    too-long-requires
     returns
     array-share-prefix-product
     slice-aggregate-p
     sum-requires
+    too-long-requires-2
     returns-2
+    ready-requires
     returns-3
+    ready-requires-2
     returns-4
     sub-fold-in
     fold-in-requires
@@ -271,6 +290,7 @@ plan-prod-spec =
     array-share-prefix-rest
     slice-aggregate-q
     fold-in-requires-3
+    ready-requires-3
     same-length
     same-length-2
     same-length-3

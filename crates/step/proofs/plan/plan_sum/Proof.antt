@@ -1,6 +1,5 @@
--- `plan_sum` meets its contract: a result of more than 64 terms does not fit, and otherwise the table has the four changes of the rule, one after another.
+-- `plan_sum` meets its contract: a result of more than 64 terms is told, the product first, and otherwise the table has the four changes of the rule, one after another.
 use mathlib.Core.Path.{_≡_, refl, sym, _∙_}
-use mathlib.Core.Bool.{true, false}
 use mathlib.Core.List.{List, [], _∷_}
 use Prim.Native.Nat.{ℕ, _≤_}
 use native.Mathlib.Omega.{arith}
@@ -12,15 +11,20 @@ use mir.Syntax.{w64}
 use mir.Val.{toZ, ofZ}
 use mir.Facts.{toZ-ofZ}
 use borrow.Author.Needs.{needs}
+use Rattle.refusal.specs.declared.Objection.{Objection}
+use Rattle.refusal.specs.declared.Objection.the-variants.{Nothing, Found}
+use Rattle.refusal.specs.declared.Reason.the-variants.{TooManyTerms}
 use Rattle.polynomial.specs.Polynomial.{sumOf, productOf}
 use Rattle.polynomial.specs.PolynomialLaws.{exact}
 use Rattle.configuration.specs.Configuration.{Line, negated}
+use Rattle.configuration.specs.Limits.{short}
 use Rattle.replacement.specs.Passes.{Small}
-use Rattle.calculus.specs.Calculus.{conclusions, changes, allShort}
+use Rattle.calculus.specs.Calculus.{conclusions, changes, lengthTests}
 use Rattle.calculus.specs.declared.Rule.the-variants.{Sum}
 use Rattle.table.specs.Rows.{Table}
 use Rattle.step.proofs.Amounts.{negated-fits, negated-is, doubled-fits, doubled-is, small-changes}
-use Rattle.step.proofs.Plans.{room, long, short, Folded, folded-none, fold-asked, fold-given, made}
+use Rattle.step.specs.Stepping.{Finds}
+use Rattle.step.proofs.Plans.{too-long, not-long, room, Folded, folded-none, fold-asked, fold-given}
 use Rattle.step.proofs.plan.plan_sum.Statement.{statement}
 use Rattle.step.proofs.plan.plan_sum.Tie as tie
 
@@ -59,38 +63,45 @@ Has s k = Folded (take k (changed s))
 none : (s : tie.Start) → Has s 0 (table s)
 none s = folded-none (s .pre .3)
 
--- ---- f + g and f g, exact
-told-sum : (c : tie.After-sum2)
-    → (let s = c .before .before .before .before .before .before .before in let k = c .sum2 in
-    (k .result ≡ length (sumOf (left s) (right s))) × (k .result ≤ 64 → take (k .result) (k .last .1 .1 .0) ≡ sumOf (left s) (right s)))
-told-sum c =
-    let s = c .before .before .before .before .before .before .before in
-    exact (left s ∷ right s ∷ []) (sumOf (left s) (right s)) _ _ _ (s .pre .0 .0, (s .pre .1 .0, tt)) (c .sum2 .ensures)
-
+-- ---- f g and f + g, exact
 told-product : (c : tie.After-product2)
-    → (let s = c .before .before .before .before .before .before .before .before .before .before in let k = c .product2 in
+    → (let s = c .before .before .before .before .before .before .before in let k = c .product2 in
     (k .result ≡ length (productOf (left s) (right s))) × (k .result ≤ 64 → take (k .result) (k .last .1 .1 .0) ≡ productOf (left s) (right s)))
 told-product c =
-    let s = c .before .before .before .before .before .before .before .before .before .before in
+    let s = c .before .before .before .before .before .before .before in
     exact (left s ∷ right s ∷ []) (productOf (left s) (right s)) _ _ _ (s .pre .0 .0, (s .pre .1 .0, tt)) (c .product2 .ensures)
+
+told-sum : (c : tie.After-sum2)
+    → (let s = c .before .before .before .before .before .before .before .before .before .before in let k = c .sum2 in
+    (k .result ≡ length (sumOf (left s) (right s))) × (k .result ≤ 64 → take (k .result) (k .last .1 .1 .0) ≡ sumOf (left s) (right s)))
+told-sum c =
+    let s = c .before .before .before .before .before .before .before .before .before .before in
+    exact (left s ∷ right s ∷ []) (sumOf (left s) (right s)) _ _ _ (s .pre .0 .0, (s .pre .1 .0, tt)) (c .sum2 .ensures)
 
 -- ---- where both results are short enough
 abbrev begun : tie.Else2 → tie.Start
 begun c = c .before .before .before .before .before .before .before .before .before .before .before
 
-fits : (c : tie.Else2) → allShort (conclusions Sum (left (begun c)) (right (begun c)) (begun c .args .amount)) ≡ true
-unfolding allShort
+-- the first result, and where it is short enough the second
+abbrev ruled : tie.Start → List Line
+ruled s = conclusions Sum (left s) (right s) (s .args .amount)
+
+past-product : (c : tie.Else1) (found : Objection)
+    → (let s = c .before .before .before .before .before .before .before .before in Finds (short (sumOf (left s) (right s)) ∷ []) found → Finds (lengthTests (ruled s)) found)
+past-product c found =
+    let s = c .before .before .before .before .before .before .before .before in
+    not-long _ (productOf (left s) (right s)) (told-product (c .before) .0) (short (sumOf (left s) (right s)) ∷ []) found (c .if1 .left)
+
+fits : (c : tie.Else2) → Finds (lengthTests (ruled (begun c))) Nothing
 fits c =
     let s = begun c in
-    let e = short (c .before .before .before .before .sum2 .result) (sumOf (left s) (right s)) (told-sum (c .before .before .before .before) .0) (c .before .before .before .if1 .left) in
-    let d = short (c .before .product2 .result) (productOf (left s) (right s)) (told-product (c .before) .0) (c .if2 .left) in
-    rw (e, d)
+    past-product (c .before .before .before) Nothing (not-long _ (sumOf (left s) (right s)) (told-sum (c .before) .0) [] Nothing (c .if2 .left) (λ o. refl))
 
-sum-is : (c : tie.Else2) → (let k = c .before .before .before .before .sum2 in take (k .result) (k .last .1 .1 .0) ≡ sumOf (left (begun c)) (right (begun c)))
-sum-is c = told-sum (c .before .before .before .before) .1 (c .before .before .before .if1 .left)
+product-is : (c : tie.Else2) → (let k = c .before .before .before .before .product2 in take (k .result) (k .last .1 .1 .0) ≡ productOf (left (begun c)) (right (begun c)))
+product-is c = told-product (c .before .before .before .before) .1 (c .before .before .before .if1 .left)
 
-product-is : (c : tie.Else2) → (let k = c .before .product2 in take (k .result) (k .last .1 .1 .0) ≡ productOf (left (begun c)) (right (begun c)))
-product-is c = told-product (c .before) .1 (c .if2 .left)
+sum-is : (c : tie.Else2) → (let k = c .before .sum2 in take (k .result) (k .last .1 .1 .0) ≡ sumOf (left (begun c)) (right (begun c)))
+sum-is c = told-sum (c .before) .1 (c .if2 .left)
 
 -- ---- the table after each change
 abbrev at-one : tie.After-fold-in → tie.Else2
@@ -118,8 +129,8 @@ two c =
     let s = begun (at-two c) in
     fold-given (one (past-one c)) (omega arith) refl (lost s) (small s .1 .0) (c .fold-in2 .ensures)
 
--- the third is of the sum, and the fourth of the product
-abbrev past-two : tie.After-sum3 → tie.After-fold-in2
+-- the third is of the product, and the fourth of the sum
+abbrev past-two : tie.After-product3 → tie.After-fold-in2
 past-two c = c .before .before .before .before .before .before .before .before
 
 abbrev at-three : tie.After-fold-in3 → tie.Else2
@@ -132,9 +143,9 @@ unfolding negated
 three c =
     let k = at-three c in
     let s = begun k in
-    fold-given (two (past-two (c .before .before .before .before .before))) (omega arith) (sum-is k) (gained s) (small s .1 .1 .0) (c .fold-in3 .ensures)
+    fold-given (two (past-two (c .before .before .before .before .before))) (omega arith) (product-is k) (doubled s) (small s .1 .1 .0) (c .fold-in3 .ensures)
 
-abbrev past-three : tie.After-product3 → tie.After-fold-in3
+abbrev past-three : tie.After-sum3 → tie.After-fold-in3
 past-three c = c .before .before .before .before .before .before .before .before
 
 abbrev at-four : tie.After-fold-in4 → tie.Else2
@@ -147,35 +158,36 @@ unfolding negated
 four c =
     let k = at-four c in
     let s = begun k in
-    fold-given (three (past-three (c .before .before .before .before .before))) (omega arith) (product-is k) (doubled s) (small s .1 .1 .1 .0) (c .fold-in4 .ensures)
+    fold-given (three (past-three (c .before .before .before .before .before))) (omega arith) (sum-is k) (gained s) (small s .1 .1 .1 .0) (c .fold-in4 .ensures)
 
-abbrev last : tie.After-slice-known15 → tie.After-fold-in4
-last c = c .before .before .before .before .before .before .before
-
-sum-requires : tie.Need-sum-requires
-sum-requires c κs = search needs
-
-returns : tie.Need-returns
-unfolding allShort
-returns c =
-    let k = c .before in
-    let s = k .before .before .before .before .before .before .before in
-    let e = long (k .sum2 .result) (sumOf (left s) (right s)) (told-sum k .0) (c .if1 .taken) in
-    made Sum (left s) (right s) (s .args .amount) false (rw e) (none s)
+abbrev last : tie.After-ready → tie.After-fold-in4
+last c = c .before .before .before .before .before .before .before .before
 
 product-requires : tie.Need-product-requires
 product-requires c κs = search needs
 
-returns-2 : tie.Need-returns-2
-unfolding allShort
-returns-2 c =
-    let m = c .before in
-    let o = m .before .before in
-    let k = o .before in
+too-long-requires : tie.Need-too-long-requires
+too-long-requires c κs = search needs
+
+returns : tie.Need-returns
+returns c =
+    let k = c .before .before in
     let s = k .before .before .before .before .before .before .before in
-    let e = short (k .sum2 .result) (sumOf (left s) (right s)) (told-sum k .0) (o .if1 .left) in
-    let d = long (m .product2 .result) (productOf (left s) (right s)) (told-product m .0) (c .if2 .taken) in
-    made Sum (left s) (right s) (s .args .amount) false (rw (e, d)) (none s)
+    rw (c .too-long .ensures) (too-long (k .product2 .result) (productOf (left s) (right s)) (told-product k .0) (short (sumOf (left s) (right s)) ∷ []) (c .before .if1 .taken), none s .holds)
+
+sum-requires : tie.Need-sum-requires
+sum-requires c κs = search needs
+
+too-long-requires-2 : tie.Need-too-long-requires-2
+too-long-requires-2 c κs = search needs
+
+returns-2 : tie.Need-returns-2
+returns-2 c =
+    let m = c .before .before in
+    let o = m .before .before in
+    let s = o .before .before .before .before .before .before .before .before in
+    let e = too-long (m .sum2 .result) (sumOf (left s) (right s)) (told-sum m .0) [] (c .before .if2 .taken) in
+    rw (c .too-long2 .ensures) (past-product o (Found (TooManyTerms (m .sum2 .result))) e, none s .holds)
 
 sub-lost : tie.Need-sub-lost
 sub-lost c = let s = begun c in rw (gained s) (negated-fits (s .args .amount) (s .pre .2))
@@ -193,13 +205,16 @@ fold-in-requires-2 c κs =
     let s = begun (at-one o) in
     fold-asked (one o) (omega arith) refl (lost s) (small s .1 .0) (s .pre .1 .0)
 
-array-share-prefix-sum : tie.Need-array-share-prefix-sum
-array-share-prefix-sum c =
+array-share-prefix-product : tie.Need-array-share-prefix-product
+array-share-prefix-product c =
     let k = at-two (c .before .before .before .before .before .before .before) in
-    room _ _ _ (told-sum (k .before .before .before .before)) (k .before .before .before .if1 .left)
+    room _ _ _ (told-product (k .before .before .before .before)) (k .before .before .before .if1 .left)
 
-slice-aggregate-s : tie.Need-slice-aggregate-s
-slice-aggregate-s c = sym (length-take-le _ _ (array-share-prefix-sum (c .before)))
+slice-aggregate-p : tie.Need-slice-aggregate-p
+slice-aggregate-p c = sym (length-take-le _ _ (array-share-prefix-product (c .before)))
+
+add-twice : tie.Need-add-twice
+add-twice c = let s = begun (at-two (past-two c)) in rw (gained s) (doubled-fits (s .args .amount) (s .pre .2))
 
 fold-in-requires-3 : tie.Need-fold-in-requires-3
 unfolding negated
@@ -207,17 +222,14 @@ fold-in-requires-3 c κs =
     let h = c .before .before .before .before in
     let k = at-two (past-two h) in
     let s = begun k in
-    fold-asked (two (past-two h)) (omega arith) (sum-is k) (gained s) (small s .1 .1 .0)
-    (omega (arith, told-sum (k .before .before .before .before) .0, k .before .before .before .if1 .left))
+    fold-asked (two (past-two h)) (omega arith) (product-is k) (doubled s) (small s .1 .1 .0)
+    (omega (arith, told-product (k .before .before .before .before) .0, k .before .before .before .if1 .left))
 
-array-share-prefix-product : tie.Need-array-share-prefix-product
-array-share-prefix-product c = let k = at-three (c .before .before .before .before .before .before .before) in room _ _ _ (told-product (k .before)) (k .if2 .left)
+array-share-prefix-sum : tie.Need-array-share-prefix-sum
+array-share-prefix-sum c = let k = at-three (c .before .before .before .before .before .before .before) in room _ _ _ (told-sum (k .before)) (k .if2 .left)
 
-slice-aggregate-p : tie.Need-slice-aggregate-p
-slice-aggregate-p c = sym (length-take-le _ _ (array-share-prefix-product (c .before)))
-
-add-twice : tie.Need-add-twice
-add-twice c = let s = begun (at-three (past-three c)) in rw (gained s) (doubled-fits (s .args .amount) (s .pre .2))
+slice-aggregate-s : tie.Need-slice-aggregate-s
+slice-aggregate-s c = sym (length-take-le _ _ (array-share-prefix-sum (c .before)))
 
 fold-in-requires-4 : tie.Need-fold-in-requires-4
 unfolding negated
@@ -225,7 +237,10 @@ fold-in-requires-4 c κs =
     let h = c .before .before .before .before in
     let k = at-three (past-three h) in
     let s = begun k in
-    fold-asked (three (past-three h)) (omega arith) (product-is k) (doubled s) (small s .1 .1 .1 .0) (omega (arith, told-product (k .before) .0, k .if2 .left))
+    fold-asked (three (past-three h)) (omega arith) (sum-is k) (gained s) (small s .1 .1 .1 .0) (omega (arith, told-sum (k .before) .0, k .if2 .left))
+
+ready-requires : tie.Need-ready-requires
+ready-requires c κs = search needs
 
 same-length : tie.Need-same-length
 same-length c = four (last c) .holds .1 .order-length ∙ sym (begun (at-four (last c)) .pre .3 .order-length)
@@ -241,26 +256,29 @@ same-length-4 c = four (last c) .holds .1 .counts-length ∙ sym (begun (at-four
 
 returns-3 : tie.Need-returns-3
 unfolding negated
-returns-3 c = let k = at-four (last c) in let s = begun k in made Sum (left s) (right s) (s .args .amount) true (fits k) (four (last c))
+returns-3 c = rw (c .ready .ensures) (fits (at-four (last c)), four (last c) .holds)
 
 pub plan-sum-spec : {M : Type 1} → statement M
 plan-sum-spec =
     tie.close
     (tie.spec
-    sum-requires
-    returns
     product-requires
+    too-long-requires
+    returns
+    sum-requires
+    too-long-requires-2
     returns-2
     sub-lost
     fold-in-requires
     fold-in-requires-2
-    array-share-prefix-sum
-    slice-aggregate-s
-    fold-in-requires-3
     array-share-prefix-product
     slice-aggregate-p
     add-twice
+    fold-in-requires-3
+    array-share-prefix-sum
+    slice-aggregate-s
     fold-in-requires-4
+    ready-requires
     same-length
     same-length-2
     same-length-3
