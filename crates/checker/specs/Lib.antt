@@ -8,5 +8,6 @@ pub mod OneListing
 pub mod CostRule
 pub mod Layouts
 pub mod SumFromProds
+pub mod HowFarOver
 pub mod LeftForm
 pub mod DeskTable

@@ -3,3 +3,4 @@ pub mod Entries
 pub mod Held
 pub mod ProblemLaws
 pub mod RefusedLaws
+pub mod TooLong
