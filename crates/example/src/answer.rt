@@ -1,4 +1,4 @@
-// What an operation answers, in words: their number, and up to two numbers that stand in them.
+// What an operation answers, in words: their number, and the numbers that stand in them.
 use crate::text::Text;
 use crate::text::natural;
 use checker::LineAnswer;
@@ -17,11 +17,12 @@ const CONFIRMED: u8 = 2;
 
 const WRITTEN: u8 = 3;
 
-// What an operation said: which words, and the numbers between them.
+// What an operation said: which words, the numbers between them, and how many terms a refusal tells, 0 where it tells none.
 pub struct Said {
     words: u8,
     first: u64,
     second: u64,
+    terms: u64,
 }
 
 impl Said {
@@ -29,7 +30,16 @@ impl Said {
         words: ACCEPTED,
         first: 0,
         second: 0,
+        terms: 0,
     };
+}
+
+// How many terms a reason tells, 0 where it tells none.
+fn terms_of(reason: Reason) -> u64 {
+    match reason {
+        Reason::TooManyTerms(terms) => terms,
+        _ => 0,
+    }
 }
 
 // A refusal's.
@@ -38,6 +48,7 @@ fn refused(place: u64, reason: Reason) -> Said {
         words: REFUSED,
         first: number(reason) as u64,
         second: place,
+        terms: terms_of(reason),
     }
 }
 
@@ -64,6 +75,7 @@ pub fn checked(answer: CheckAnswer) -> Said {
             words: CONFIRMED,
             first: natural(claim),
             second: degree as u64,
+            terms: 0,
         },
         CheckAnswer::Refused(place, reason) => refused(place, reason),
     }
@@ -76,6 +88,7 @@ pub fn written(answer: LineAnswer) -> Said {
             words: WRITTEN,
             first: size as u64,
             second: 0,
+            terms: 0,
         },
         LineAnswer::Refused(place, reason) => refused(place, reason),
     }
@@ -89,8 +102,12 @@ fn pair(words: &[u8], first: u64, more: &[u8], second: u64) -> Text {
 }
 
 // The text of a refusal.
-fn refusal(reason: u64, place: u64) -> Text {
-    pair(b"refused ", reason, b" at record ", place)
+fn refusal(reason: u64, place: u64, terms: u64) -> Text {
+    let text = pair(b"refused ", reason, b" at record ", place);
+    if terms == 0 {
+        return text;
+    }
+    text.with_number(b", ", terms).with(b" terms")
 }
 
 // The text of a confirmation.
@@ -109,5 +126,5 @@ pub fn text_of(said: Said) -> Text {
     if said.words == CONFIRMED {
         return confirmation(said.first, said.second);
     }
-    refusal(said.first, said.second)
+    refusal(said.first, said.second, said.terms)
 }

@@ -94,11 +94,11 @@ pub fn text_at(data: &[u8], at: usize) -> &[u8] {
     &data[..0]
 }
 
-// The first 65 terms of an operand: one of more is refused for these.
-pub fn terms_of(operand: &[u8]) -> [u32; 65] {
-    let mut terms = [0u32; 65];
+// The first 128 terms of an operand.
+pub fn terms_of(operand: &[u8]) -> [u32; 128] {
+    let mut terms = [0u32; 128];
     let mut i: usize = 0;
-    while i < 65 {
+    while i < 128 {
         terms[i] = short_at(operand, 4 * i);
         i += 1;
     }

@@ -87,8 +87,8 @@ fn stepped(data: &[u8], item: Item, state: State) -> State {
     let g = text_at(data, item.g);
     let a = terms_of(f);
     let b = terms_of(g);
-    let first = at_most(65, f.len() / 4);
-    let second = at_most(65, g.len() / 4);
+    let first = at_most(128, f.len() / 4);
+    let second = at_most(128, g.len() / 4);
     step(
         state,
         item,

@@ -5,10 +5,10 @@ use Rattle.example.proofs.item.terms_of.Statement.{statement}
 use Rattle.example.proofs.item.terms_of.Tie as tie
 
 abbrev Inv-loop : tie.InvT-loop
-Inv-loop operand terms₀ i₀ terms i = i ≤ 65
+Inv-loop operand terms₀ i₀ terms i = i ≤ 128
 
 abbrev μ-loop : tie.MeasureT-loop
-μ-loop operand terms₀ i₀ terms i = 65 - i
+μ-loop operand terms₀ i₀ terms i = 128 - i
 
 loop-holds : tie.Need-loop-holds Inv-loop μ-loop
 loop-holds c = search needs
