@@ -14,7 +14,7 @@ use Rattle.refusal.specs.declared.Objection.{Objection}
 use Rattle.refusal.specs.declared.Objection.the-variants.{Nothing, Found}
 use Rattle.refusal.specs.declared.Reason.the-variants.{TooManyTerms}
 use Rattle.polynomial.specs.Polynomial.{ZERO, ONE, sumOf, productOf, Ordered}
-use Rattle.polynomial.specs.PolynomialLaws.{product-plus-one}
+use Rattle.polynomial.specs.PolynomialLaws.{product-plus-one, sum-turned}
 use Rattle.configuration.specs.Weight.{inRange}
 use Rattle.configuration.specs.Configuration.{Line, line, weight, add, addAll, negated, InOrder}
 use Rattle.configuration.specs.ConfigurationLaws.{all-ordered, netted}
@@ -44,9 +44,9 @@ module _ (r : ℕ) (l : List ℕ) (e : r ≡ length l) (ts : List Test) where
 pub room : (l area : List ℕ) (r : ℕ) → (r ≡ length l) × (r ≤ 64 → take r area ≡ l) → r ≤ 64 → r ≤ length area
 room l area r told h = omega (arith, told .0, ap length (told .1 h), length-take r area)
 
--- f + f g, worked out from f g, is f (g + 1)
-pub plus-one : (f g p : List ℕ) → p ≡ productOf f g → sumOf f p ≡ productOf f (sumOf g ONE)
-plus-one f g p h = ap (sumOf f) h ∙ sym (product-plus-one f g)
+-- f g + f, worked out from f g, is f (g + 1)
+pub plus-one : (f g p : List ℕ) → p ≡ productOf f g → sumOf p f ≡ productOf f (sumOf g ONE)
+plus-one f g p h = sum-turned f p ∙ ap (sumOf f) h ∙ sym (product-plus-one f g)
 
 -- ---- changes folded one by one
 -- a table of four has the changes C, none of them large

@@ -72,7 +72,8 @@ fn plan_sum(
     ready(fold_in(three, order, terms, weights, counts, s, amount))
 }
 
-// PROD: f loses the amount, f g gains it, f (g + 1) gains it. The last is f + f g, since g + 1 may have 65 terms.
+// PROD: f loses the amount, f g gains it, f (g + 1) gains it. The last is f g + f, since g + 1 may have 65 terms; the terms of f g
+// mostly stand before those of f.
 fn plan_prod(
     f: &[u32],
     g: &[u32],
@@ -92,7 +93,7 @@ fn plan_prod(
     }
     let p = &product[..n];
     let mut rest = [0u32; 64];
-    let m = Polynomial::sum(f, p, &mut rest);
+    let m = Polynomial::sum(p, f, &mut rest);
     if 64 < m {
         return too_long(m);
     }

@@ -1,5 +1,5 @@
 -- `plan_prod` meets its contract: a result of more than 64 terms is told, f g first, one of no terms leaves the table empty, and otherwise the table has the
--- three changes of the rule, one after another, since f + f g is f (g + 1).
+-- three changes of the rule, one after another, since f g + f is f (g + 1).
 use mathlib.Core.Path.{_≡_, refl, sym, ap, _∙_}
 use mathlib.Core.Logic.{_⊎_, inl, inr}
 use mathlib.Core.List.{List, [], _∷_}
@@ -91,18 +91,18 @@ lent c = let k = c .before .product2 in take (k .result) (k .last .1 .1 .0)
 product-is : (c : tie.Else1) → lent c ≡ product (opened c)
 product-is c = told-product (c .before) .1 (c .if1 .left)
 
-rest-is : (c : tie.Else1) → sumOf (left (opened c)) (lent c) ≡ rest (opened c)
+rest-is : (c : tie.Else1) → sumOf (lent c) (left (opened c)) ≡ rest (opened c)
 rest-is c = let s = opened c in plus-one (left s) (right s) (lent c) (product-is c)
 
--- f + f g, as it is answered
+-- f g + f, as it is answered
 told-rest : (c : tie.After-sum)
-    → (let o = c .before .before .before in let l = sumOf (left (opened o)) (lent o) in let k = c .sum in
+    → (let o = c .before .before .before in let l = sumOf (lent o) (left (opened o)) in let k = c .sum in
     (k .result ≡ length l) × (k .result ≤ 64 → take (k .result) (k .last .1 .1 .0) ≡ l))
 told-rest c =
     let o = c .before .before .before in
     let s = opened o in
-    exact (left s ∷ lent o ∷ []) (sumOf (left s) (lent o)) _ _ _
-    (s .pre .0 .0, (omega (arith, ap length (product-is o), told-product (o .before) .0, o .if1 .left), tt)) (c .sum .ensures)
+    exact (lent o ∷ left s ∷ []) (sumOf (lent o) (left s)) _ _ _
+    (omega (arith, ap length (product-is o), told-product (o .before) .0, o .if1 .left), (s .pre .0 .0, tt)) (c .sum .ensures)
 
 rest-size : (c : tie.After-sum) → c .sum .result ≡ length (rest (opened (c .before .before .before)))
 rest-size c = told-rest c .0 ∙ ap length (rest-is (c .before .before .before))
