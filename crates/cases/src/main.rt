@@ -8,7 +8,7 @@ use report::held;
 ghost use Prim.Native.Nat.{_<_};
 
 // How many cases there are.
-const CASES: usize = 250;
+const CASES: usize = 253;
 
 fn print(text: &[u8]) {
     io::write_all(libc::STDOUT_FILENO, text);
