@@ -30,7 +30,7 @@ use Rattle.walk.specs.Walk.{Progress, past, readAll}
 use Rattle.walk.specs.Work.{termAdded}
 use Rattle.walk.specs.WalkLaws.{next-tells}
 use Rattle.walk.specs.WorkLaws.{term-tells}
-use Rattle.derivation.specs.Derivation.{State, going, having, claimFits, onMode, onTerm, onChoice, onStep, onClaim, onRecord, checking, fresh, checkDerivation}
+use Rattle.derivation.specs.Derivation.{State, going, having, claimFits, onMode, onTerm, onStep, onClaim, onRecord, checking, fresh, checkDerivation}
 use Rattle.derivation.specs.DerivationLaws.{Sound, sound-check}
 use Rattle.derivation.specs.RefusedLaws.{check-refused-first}
 

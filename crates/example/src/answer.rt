@@ -35,7 +35,7 @@ impl Said {
 }
 
 // How many terms a reason tells, 0 where it tells none.
-fn terms_of(reason: Reason) -> u64 {
+fn terms_told(reason: Reason) -> u64 {
     match reason {
         Reason::TooManyTerms(terms) => terms,
         _ => 0,
@@ -48,7 +48,7 @@ fn refused(place: u64, reason: Reason) -> Said {
         words: REFUSED,
         first: number(reason) as u64,
         second: place,
-        terms: terms_of(reason),
+        terms: terms_told(reason),
     }
 }
 

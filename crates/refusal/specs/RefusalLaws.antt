@@ -1,7 +1,7 @@
 -- Each refusal names one reason, with its detail, and no number is above 17.
 use mathlib.Core.Path.{_≡_, refl, sym, ap, _∙_}
 use mathlib.Core.List.{[], _∷_}
-use Prim.Native.Nat.{ℕ, _≤_}
+use Prim.Native.Nat.{_≤_}
 use lib.Dec.{lit≤}
 use lib.ListN.{getD}
 use Rattle.refusal.specs.Refusal.{Refusal, refusalOf}
