@@ -1,7 +1,7 @@
--- Each refusal names one reason, with its detail, and no number is above 17.
-use mathlib.Core.Path.{_≡_, refl, sym, ap, _∙_}
+-- Each number names one reason, but for the detail of 7, and no number is above 17.
+use mathlib.Core.Path.{_≡_, refl, sym, ap, ap₂, _∙_}
 use mathlib.Core.List.{[], _∷_}
-use Prim.Native.Nat.{_≤_}
+use Prim.Native.Nat.{ℕ, _≤_}
 use lib.Dec.{lit≤}
 use lib.ListN.{getD}
 use Rattle.refusal.specs.Refusal.{Refusal, refusalOf}
@@ -34,6 +34,34 @@ named-refusal NoSuchLine = refl
 
 pub refusal-names : (r s : Reason) → refusalOf r ≡ refusalOf s → r ≡ s
 refusal-names r s e = sym (named-refusal r) ∙ ap named e ∙ named-refusal s
+
+-- a reason of another number than 7 tells no detail
+no-detail : (r : Reason) → (refusalOf r .number ≡ 7 → ⊥) → refusalOf r .detail ≡ 0
+no-detail WrongLength h = refl
+no-detail IllFormed h = refl
+no-detail CutShort h = refl
+no-detail Misplaced h = refl
+no-detail TooManyVariables h = refl
+no-detail UnknownVariable h = refl
+no-detail (TooManyTerms terms) h = absurd (h refl)
+no-detail OutOfRange h = refl
+no-detail WeightMissing h = refl
+no-detail TooManyLines h = refl
+no-detail WeightTooLarge h = refl
+no-detail NegativeLine h = refl
+no-detail ClaimTooHigh h = refl
+no-detail TextTooLong h = refl
+no-detail Unfinished h = refl
+no-detail UnorderedTerms h = refl
+no-detail NoSuchLine h = refl
+
+pub number-names : (r s : Reason) → refusalOf r .number ≡ refusalOf s .number → (refusalOf r .number ≡ 7 → ⊥) → r ≡ s
+number-names r s e h = refusal-names r s (ap₂ (λ (n d : ℕ). record { number = n; detail = d }) e (no-detail r h ∙ sym (no-detail s (λ z. h (e ∙ z)))))
+
+-- and 7 is that of a polynomial with so many terms as are told
+pub seven-names : (r : Reason) → refusalOf r .number ≡ 7 → r ≡ TooManyTerms (refusalOf r .detail)
+unfolding named
+seven-names r z = sym (named-refusal r) ∙ ap (λ (n : ℕ). named (record { number = n; detail = refusalOf r .detail })) z
 
 pub number-most : (r : Reason) → refusalOf r .number ≤ 17
 number-most WrongLength = lit≤ tt
