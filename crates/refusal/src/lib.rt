@@ -1,4 +1,4 @@
-// Why an operation refuses. Document 01 numbers the kinds of refusal; some tell a second number, a detail.
+// Why an operation refuses. Documents 01 and 02 number the kinds of refusal; some tell a second number, a detail.
 ghost use mathlib.Core.Path.{_≡_};
 ghost use Rattle.refusal.specs.Refusal.{refusalOf};
 
@@ -37,6 +37,10 @@ pub enum Reason {
     UnorderedTerms,
     // There is no line of this number.
     NoSuchLine,
+    // A seventeenth hard polynomial.
+    TooManyHard,
+    // There is no hard polynomial of this number.
+    NoSuchHard,
 }
 
 // What is found against something, if anything.
@@ -45,7 +49,7 @@ pub enum Objection {
     Found(Reason),
 }
 
-// Document 01's number of a reason.
+// The number of a reason in documents 01 and 02.
 pub fn number(reason: Reason) -> u32
     ensures { λ r. ⌜ r ≡ refusalOf reason .number ⌝ }
 {
@@ -67,5 +71,7 @@ pub fn number(reason: Reason) -> u32
         Reason::Unfinished => 15,
         Reason::UnorderedTerms => 16,
         Reason::NoSuchLine => 17,
+        Reason::TooManyHard => 18,
+        Reason::NoSuchHard => 19,
     }
 }
