@@ -1,5 +1,5 @@
 -- A weight as code has it: its bits, its sign and its range.
-use mathlib.Core.Path.{_≡_, refl, sym, ap, _∙_}
+use mathlib.Core.Path.{_≡_, refl, sym, ap, ap₂, _∙_}
 use mathlib.Core.Bool.{Bool, true, false, not, _&&_, true≢false}
 use Prim.Native.Nat.{ℕ, zero, suc, _-_, _^_, _≤_, _<_}
 use native.Mathlib.Omega.{arith}
@@ -36,6 +36,14 @@ joined-below k a b = go (ltb a (2 ^ k)) refl (ltb b (2 ^ k)) refl
     go true p true q = lt-ltb (bitOr a b) (2 ^ k) (or-lt k a b (ltb-true a (2 ^ k) p) (ltb-true b (2 ^ k) q))
     go true p false q = le-ltb (bitOr a b) (2 ^ k) (omega (arith, joined-above a b, ltb-false b (2 ^ k) q))
     go false p y q = le-ltb (bitOr a b) (2 ^ k) (omega (arith, joined-above a b, ltb-false a (2 ^ k) p))
+
+-- ---- joined bits are zero just if both numbers are
+below-one : (a : ℕ) → ltb a (2 ^ 0) ≡ eqb a 0
+below-one zero = refl
+below-one (suc a) = le-ltb (suc a) (2 ^ 0) (omega arith) ∙ sym (ne-eqb (suc a) 0 (λ e. omega arith))
+
+pub joined-zero : (a b : ℕ) → eqb (bitOr a b) 0 ≡ (eqb a 0 && eqb b 0)
+joined-zero a b = sym (below-one (bitOr a b)) ∙ joined-below 0 a b ∙ ap₂ _&&_ (below-one a) (below-one b)
 
 -- the highest bit of a weight tells whether it is negative
 pub sign-bit : (n : ℕ) → not (isNegative (toZ w64 n)) ≡ ltb n (2 ^ 63)

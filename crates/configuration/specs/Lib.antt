@@ -1,3 +1,5 @@
+pub mod Area
+pub mod AreaLaws
 pub mod Configuration
 pub mod ConfigurationLaws
 pub mod Limits

@@ -13,7 +13,8 @@ use Rattle.table.specs.Rows.{Table, rowOf, linesAt, linesOf, Each, Entered, Fit
 use Rattle.memory.specs.declared.Entry.{Entry}
 use Rattle.memory.specs.Memory.{Memory, allTerms, entriesOf, unused, imageOf}
 use Rattle.memory.specs.LayoutLaws.{length-entries}
-use Rattle.memory.specs.MemoryLaws.{zeros-replicate, length-terms}
+use Rattle.configuration.specs.AreaLaws.{zeros-replicate}
+use Rattle.memory.specs.MemoryLaws.{length-terms}
 use Rattle.memory.specs.Places.{ClearFrom}
 
 each-short : (t : Table) (is : List ℕ) → Each (Entered t) is → Short (linesAt t is)

@@ -1,4 +1,4 @@
--- The steps of the test 'well formed', over plain lists: a line, zeros, the entries behind the lines, the lines one by one, and the parts of the whole test.
+-- The steps of the test 'well formed', over plain lists: a line, the entries behind the lines, the lines one by one, and the parts of the whole test.
 use mathlib.Core.Path.{_≡_, refl, sym, ap, ap₂, _∙_}
 use mathlib.Core.Bool.{Bool, true, false, not, _&&_, true≢false}
 use mathlib.Core.List.{List, [], _∷_}
@@ -6,21 +6,19 @@ use Prim.Native.Nat.{ℕ, zero, suc, _+_, _^_, _≤_, _<_}
 use native.Mathlib.Nat.{le-of-suc-le-suc, not-suc-le-zero}
 use native.Mathlib.Numerals.{add-one}
 use native.Mathlib.Omega.{arith}
-use lib.Bits.{bitOr}
 use lib.Dec.{T, eqb, ltb}
 use lib.IntN.{ℤ, pos}
 use lib.ListN.{length, getD, take, drop, drop-of-length-le}
 use lib.Seq.{drop-cons, drop-drop}
-use borrow.Author.Tests.{ne-eqb, le-ltb}
 use Rattle.run.specs.BooleanLaws.{is-false, left, right, both, bool-ext}
 use Rattle.polynomial.specs.Polynomial.{orderOf}
 use Rattle.configuration.specs.Weight.{inRange, isZero}
 use Rattle.configuration.specs.Configuration.{Line, line, some, byOrder, isPolynomial, lineFits, linesFit, weightsFit}
-use Rattle.configuration.proofs.Weights.{joined-below}
 use Rattle.memory.specs.declared.Entry.{Entry}
 use Rattle.memory.specs.Memory.{Memory, readLines, unused, standingOf, wellFormed}
 use Rattle.memory.specs.MemoryLaws.{used-take, used-next, length-read, Formed, well-formed, formed-well}
-use Rattle.memory.specs.Places.{usedBy, zeros, isUnused, allUnused}
+use Rattle.configuration.specs.Area.{zeros}
+use Rattle.memory.specs.Places.{usedBy, isUnused, allUnused}
 
 -- ---- tests
 pub and-false : (a b : Bool) → b ≡ false → (a && b) ≡ false
@@ -66,14 +64,6 @@ module _ (n : ℕ) (f : List ℕ) (w : ℤ) where
   pub the-polynomial : (length f ≡ 0 → ⊥) → isZero w ≡ false → isPolynomial n f ≡ lineFits n (line f w)
   unfolding lineFits
   the-polynomial h e = rw (some-many f h) (sym (and-true (isPolynomial n f) (not (isZero w)) (ap not e)))
-
--- ---- joined bits are zero just if both numbers are
-below-one : (a : ℕ) → ltb a (2 ^ 0) ≡ eqb a 0
-below-one zero = refl
-below-one (suc a) = le-ltb (suc a) (2 ^ 0) (omega arith) ∙ sym (ne-eqb (suc a) 0 (λ e. omega arith))
-
-pub joined-zero : (a b : ℕ) → eqb (bitOr a b) 0 ≡ (eqb a 0 && eqb b 0)
-joined-zero a b = sym (below-one (bitOr a b)) ∙ joined-below 0 a b ∙ ap₂ _&&_ (below-one a) (below-one b)
 
 -- ---- the entries behind the lines
 module _ (i : ℕ) (t : List Entry) (whole : Bool) (inv : allUnused (drop i t) ≡ whole) where

@@ -16,7 +16,9 @@ use Rattle.configuration.specs.LineLaws.{Short, IsConfiguration, configuration-
 use Rattle.memory.specs.declared.Entry.{Entry}
 use Rattle.memory.specs.Memory.{Memory, readLines, allTerms, backToBack, entriesOf, unused, sameMemory, Faithful, standingOf, imageOf, wellFormed}
 use Rattle.memory.specs.LayoutLaws.{memory-self, length-entries, well-image, well-parts}
-use Rattle.memory.specs.Places.{usedBy, zeros, ClearFrom, isUnused, allUnused}
+use Rattle.configuration.specs.Area.{zeros}
+use Rattle.configuration.specs.AreaLaws.{zeros-replicate, replicate-zeros}
+use Rattle.memory.specs.Places.{usedBy, ClearFrom, isUnused, allUnused}
 
 -- ---- lines laid out and read back, whatever stands behind them
 read-laid : (L : List Line) (x : List ℕ) (y : List Entry) → readLines (length L) (allTerms L ++ x) (entriesOf L ++ y) ≡ L
@@ -40,20 +42,10 @@ back-to-back = record {
 }
 
 -- ---- zeros
-pub zeros-replicate : (l : List ℕ) → T (zeros l) → l ≡ replicate (length l) 0
-unfolding zeros
-zeros-replicate [] h = refl
-zeros-replicate (x ∷ l) h = ap₂ (λ (y : ℕ) (m : List ℕ). y ∷ m) (eqb→eq x 0 (left (eqb x 0) (zeros l) h)) (zeros-replicate l (right (eqb x 0) (zeros l) h))
-
 -- an area of any content is clear behind its end
 pub clear-past : (ts : List ℕ) → length ts ≡ 8192 → ClearFrom 8192 ts
 unfolding zeros
 clear-past ts h = (h, omega arith, rw (drop-of-length-le ts {i = 8192} (omega arith)) tt)
-
-replicate-zeros : (n : ℕ) → T (zeros (replicate n 0))
-unfolding zeros
-replicate-zeros zero = tt
-replicate-zeros (suc n) = replicate-zeros n
 
 -- ---- unused entries
 unused-none : (n : ℕ) → T (allUnused (replicate n unused))

@@ -5,6 +5,7 @@ use mathlib.Core.List.{List, [], _∷_}
 use Prim.Native.Nat.{ℕ, _+_, _≤_}
 use lib.Dec.{T, eqb}
 use lib.ListN.{length, drop}
+use Rattle.configuration.specs.Area.{zeros}
 use Rattle.configuration.specs.Weight.{isZero}
 use Rattle.memory.specs.declared.Entry.{Entry}
 
@@ -12,10 +13,6 @@ use Rattle.memory.specs.declared.Entry.{Entry}
 unfoldable pub usedBy : List Entry → ℕ
 usedBy [] = 0
 usedBy (e ∷ t) = e .count + usedBy t
-
-unfoldable pub zeros : List ℕ → Bool
-zeros [] = true
-zeros (x ∷ l) = eqb x 0 && zeros l
 
 -- a term area that is zero from a place on
 abbrev pub ClearFrom : ℕ → List ℕ → Type 0

@@ -1,37 +1,23 @@
 // The test 'well formed'.
 use crate::Entry;
 use crate::Head;
-use crate::area::is_zero;
-use crate::area::part;
 use crate::entries::used_by;
-use configuration::form::is_below;
+use configuration::area::is_zero;
+use configuration::area::part;
+use configuration::form::is_polynomial;
 use configuration::weight::within_limit;
 use polynomial::Ordering;
 use polynomial::Polynomial;
 use polynomial::order::compare;
-use polynomial::order::in_order;
 ghost use mathlib.Core.Path.{_≡_};
 ghost use mathlib.Core.Bool.{true, false, _&&_};
 ghost use Prim.Native.Nat.{_≤_};
 ghost use lib.ListN.{length, drop};
 ghost use Rattle.polynomial.specs.Polynomial.{orderOf};
 ghost use Rattle.configuration.specs.Weight.{inRange};
-ghost use Rattle.configuration.specs.Configuration.{line, byOrder, isPolynomial, lineFits, linesFit, weightsFit};
+ghost use Rattle.configuration.specs.Configuration.{line, byOrder, lineFits, linesFit, weightsFit};
 ghost use Rattle.memory.specs.Memory.{readLines, memoryBefore, wellFormed};
 ghost use Rattle.memory.specs.Places.{usedBy, isUnused, allUnused};
-
-// Whether a run of terms is a polynomial of so many variables.
-fn is_polynomial(variables: u32, terms: &[u32]) -> bool
-    ensures { λ r. ⌜ r ≡ isPolynomial variables (now (terms .entry)) ⌝ }
-{
-    if 64 < terms.len() {
-        return false;
-    }
-    if !is_below(variables, terms) {
-        return false;
-    }
-    in_order(terms)
-}
 
 // Whether a line may be held, with its weight in range.
 fn line_fits(variables: u32, terms: &[u32], weight: i64) -> bool

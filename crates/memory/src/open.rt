@@ -1,7 +1,7 @@
 // From what is lent to the working form.
 use crate::Entry;
 use crate::Head;
-use crate::area::part;
+use configuration::area::part;
 use table::lines::append;
 ghost use mathlib.Core.Path.{_≡_};
 ghost use lib.Dec.{T};

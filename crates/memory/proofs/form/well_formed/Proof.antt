@@ -10,7 +10,8 @@ use borrow.Author.Needs.{needs}
 use borrow.Author.Tests.{not-true, not-false}
 use Rattle.run.specs.BooleanLaws.{is-true, of-true}
 use Rattle.memory.specs.Memory.{Memory, memoryOf}
-use Rattle.memory.specs.Places.{usedBy, zeros}
+use Rattle.configuration.specs.Area.{zeros}
+use Rattle.memory.specs.Places.{usedBy}
 use Rattle.memory.proofs.Forms.{not-well, the-lines}
 use Rattle.memory.proofs.form.well_formed.Statement.{statement}
 use Rattle.memory.proofs.form.well_formed.Tie as tie

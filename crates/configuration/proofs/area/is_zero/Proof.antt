@@ -6,11 +6,11 @@ use native.Mathlib.Omega.{arith}
 use lib.Dec.{eqb}
 use lib.ListN.{length, getD, drop}
 use borrow.Author.Needs.{needs}
-use Rattle.memory.specs.Places.{zeros}
+use Rattle.configuration.specs.Area.{zeros}
 use Rattle.configuration.proofs.Tests.{one-joined, all-joined}
-use Rattle.memory.proofs.Forms.{joined-zero}
-use Rattle.memory.proofs.area.is_zero.Statement.{statement}
-use Rattle.memory.proofs.area.is_zero.Tie as tie
+use Rattle.configuration.proofs.Weights.{joined-zero}
+use Rattle.configuration.proofs.area.is_zero.Statement.{statement}
+use Rattle.configuration.proofs.area.is_zero.Tie as tie
 
 abbrev Inv-loop : tie.InvT-loop
 Inv-loop area bits₀ i₀ bits i = ((eqb bits 0 && zeros (drop i area)) ≡ zeros area) × (i ≤ length area)

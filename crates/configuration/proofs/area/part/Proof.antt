@@ -3,8 +3,8 @@ use mathlib.Core.Path.{_≡_}
 use Prim.Native.Nat.{_+_, _-_}
 use native.Mathlib.Omega.{arith}
 use borrow.Author.Needs.{needs}
-use Rattle.memory.proofs.area.part.Statement.{statement}
-use Rattle.memory.proofs.area.part.Tie as tie
+use Rattle.configuration.proofs.area.part.Statement.{statement}
+use Rattle.configuration.proofs.area.part.Tie as tie
 
 add-end : tie.Need-add-end
 add-end c = search needs

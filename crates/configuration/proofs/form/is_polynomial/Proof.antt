@@ -4,8 +4,8 @@ use lib.ListN.{length}
 use denote.Ref.{now}
 use borrow.Author.Needs.{needs}
 use borrow.Author.Tests.{lt-leb, le-leb, not-true, not-false}
-use Rattle.memory.proofs.form.is_polynomial.Statement.{statement}
-use Rattle.memory.proofs.form.is_polynomial.Tie as tie
+use Rattle.configuration.proofs.form.is_polynomial.Statement.{statement}
+use Rattle.configuration.proofs.form.is_polynomial.Tie as tie
 
 returns : tie.Need-returns
 returns c = rw (lt-leb (length (now (c .before .before .args .terms))) 64 (c .if1 .taken))
