@@ -1,0 +1,4 @@
+pub mod Hard
+pub mod HardLaws
+pub mod Working
+pub mod WorkingLaws
