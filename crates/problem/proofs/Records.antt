@@ -7,20 +7,21 @@ use native.Mathlib.Omega.{arith}
 use lib.Dec.{leb, ltb}
 use lib.IntN.{ℤ}
 use lib.ListN.{length, getD}
-use borrow.Author.Tests.{lt-leb, le-leb, ne-eqb}
+use borrow.Author.Tests.{lt-leb, le-leb, lt-ltb, ne-eqb}
 use Rattle.refusal.specs.Refusal.{Refusal, numbered, tooLong}
 use Rattle.refusal.specs.Outcome.{Outcome, accepted, refused, unless, passing, mapped, nothing, refusedFor, Told, refusedAt}
 use Rattle.refusal.specs.OutcomeLaws.{unless-fails, unless-passes}
 use Rattle.polynomial.specs.Polynomial.{clauseOf, termsOf, measuredOf}
 use Rattle.polynomial.specs.declared.Measured.{Measured}
-use Rattle.configuration.specs.Configuration.{add}
-use Rattle.configuration.specs.Limits.{short, within}
-use Rattle.record.specs.Letters.{letterV, letterM, letterW, letterC}
+use Rattle.configuration.specs.Limits.{short}
+use Rattle.record.specs.Letters.{letterV, letterM, letterW, letterC, letterH}
 use Rattle.record.specs.Record.{whole, numberAt, signedAt, byteIn, amountIn, clauseIn}
 use Rattle.walk.specs.Walk.{Progress, past, verdict}
 use Rattle.walk.specs.Work.{termAdded}
 use Rattle.polynomial.specs.PolynomialLaws.{terms-of}
-use Rattle.problem.specs.Problem.{State, having, weightFits, folded, onVariables, onTerm, onWeight, onClause, onRecord, filed}
+use Rattle.problem.specs.Item.{weighted, hard, Holding}
+use Rattle.problem.specs.ItemLaws.{joined}
+use Rattle.problem.specs.Problem.{State, having, weightFits, withItem, onVariables, onTerm, onWeight, onClause, onHard, onRecord, filed}
 use Rattle.record.proofs.Bodies.{byte-cut, byte-whole, amount-cut, amount-whole, clause-cut, clause-whole}
 use Rattle.record.specs.declared.Byte.the-variants as B
 use Rattle.record.specs.declared.Amount.the-variants as A
@@ -41,6 +42,24 @@ module _ (s : List ℕ) (q : Progress State) where
     pub clause-early : refused (numbered 4) ≡ onClause s q
     clause-early = unless-fails (q .state .started) _ _ e
 
+-- ---- H
+module _ (q : Progress State) where
+  pub hard-early : q .state .started ≡ false → refused (numbered 4) ≡ onHard q
+  hard-early e = unless-fails (q .state .started) _ _ e
+
+  module _ (e : q .state .started ≡ true) where
+    abbrev listed : ℕ
+    listed = length (q .state .holding .hard)
+
+    abbrev with-held : Holding → Progress State
+    with-held x = past q 1 (having [] x (q .state))
+
+    pub hard-full : listed ≡ 16 → refused (numbered 18) ≡ onHard q
+    hard-full k = unless-passes (q .state .started) _ _ _ e (ap (mapped with-held) (unless-fails (ltb listed 16) _ _ (ap (λ (n : ℕ). ltb n 16) k)))
+
+    pub hard-in : listed < 16 → accepted (with-held (joined (hard (q .state .work)) (q .state .holding))) ≡ onHard q
+    hard-in l = unless-passes (q .state .started) _ _ _ e (ap (mapped with-held) (unless-passes (ltb listed 16) _ _ _ (lt-ltb listed 16 l) refl))
+
 -- ---- V
 module _ (s : List ℕ) (q : Progress State) (e : q .state .started ≡ false) where
   pub variables-cut : byteIn s (q .at + 1) ≡ B.Cut → refused (numbered 3) ≡ onVariables s q
@@ -55,11 +74,11 @@ module _ (s : List ℕ) (q : Progress State) (e : q .state .started ≡ false) w
         unless-passes (not (q .state .started)) _ _ _ (ap not e) (unless-passes (whole 1 s (q .at + 1)) _ _ _ (read .0)
         (unless-fails (leb (numberAt 1 s (q .at + 1)) 32) _ _ (lt-leb (numberAt 1 s (q .at + 1)) 32 (rw (read .1) l))))
 
-    pub variables-set : v ≤ 32 → accepted (past q 2 (record { started = true; variables = v; work = []; lines = [] })) ≡ onVariables s q
+    pub variables-set : v ≤ 32 → accepted (past q 2 (record { started = true; variables = v; work = q .state .work; holding = q .state .holding })) ≡ onVariables s q
     variables-set l =
         unless-passes (not (q .state .started)) _ _ _ (ap not e) (unless-passes (whole 1 s (q .at + 1)) _ _ _ (read .0)
         (unless-passes (leb (numberAt 1 s (q .at + 1)) 32) _ _ _ (le-leb (numberAt 1 s (q .at + 1)) 32 (rw (read .1) l))
-        (ap (λ (n : ℕ). accepted (past q 2 (record { started = true; variables = n; work = []; lines = [] }))) (sym (read .1)))))
+        (ap (λ (n : ℕ). accepted (past q 2 (record { started = true; variables = n; work = q .state .work; holding = q .state .holding }))) (sym (read .1)))))
 
 -- ---- M
 module _ (s : List ℕ) (q : Progress State) (e : q .state .started ≡ true) where
@@ -67,7 +86,7 @@ module _ (s : List ℕ) (q : Progress State) (e : q .state .started ≡ true) wh
   sum = termAdded (q .state .variables) s (q .at + 1) (q .state .work)
 
   abbrev with-work : List ℕ → Progress State
-  with-work f = past q 5 (having f (q .state .lines) (q .state))
+  with-work f = past q 5 (having f (q .state .holding) (q .state))
 
   pub term-not : (x : Refusal) → sum ≡ refused x → refused x ≡ onTerm s q
   term-not x k = unless-passes (q .state .started) _ _ _ e (ap (mapped with-work) (sym k))
@@ -88,11 +107,11 @@ module _ (s : List ℕ) (q : Progress State) (e : q .state .started ≡ true) wh
         unless-passes (q .state .started) _ _ _ e (unless-passes (whole 8 s (q .at + 1)) _ _ _ (amount-read .0)
         (unless-fails (weightFits (signedAt s (q .at + 1))) _ _ (ap weightFits (amount-read .1) ∙ l)))
 
-    pub weight-in : weightFits v ≡ true → folded q 9 [] (within (add (q .state .work) v (q .state .lines))) ≡ onWeight s q
+    pub weight-in : weightFits v ≡ true → withItem q 9 [] (weighted (q .state .work) v) ≡ onWeight s q
     weight-in l =
         unless-passes (q .state .started) _ _ _ e (unless-passes (whole 8 s (q .at + 1)) _ _ _ (amount-read .0)
         (unless-passes (weightFits (signedAt s (q .at + 1))) _ _ _ (ap weightFits (amount-read .1) ∙ l)
-        (ap (λ (w : ℤ). folded q 9 [] (within (add (q .state .work) w (q .state .lines)))) (sym (amount-read .1)))))
+        (ap (λ (w : ℤ). withItem q 9 [] (weighted (q .state .work) w)) (sym (amount-read .1)))))
 
   -- ---- C
   pub clause-short : clauseIn s (q .at + 1) ≡ C.Cut → refused (numbered 3) ≡ onClause s q
@@ -106,7 +125,7 @@ module _ (s : List ℕ) (q : Progress State) (e : q .state .started ≡ true) wh
     abbrev rest : ℕ → ℕ → ℤ → Outcome (Progress State)
     rest x y v =
         unless (known x && known y) 6 (unless (weightFits v) 8 (passing (short (clauseOf x y) ∷ [])
-        (folded q 17 (q .state .work) (within (add (clauseOf x y) v (q .state .lines))))))
+        (withItem q 17 (q .state .work) (weighted (clauseOf x y) v))))
 
     clause-read : (whole 16 s (q .at + 1) ≡ true) × ((numberAt 4 s (q .at + 1) ≡ x) × (numberAt 4 s (q .at + 1 + 4) ≡ y) × (signedAt s (q .at + 1 + 8) ≡ v))
     clause-read = clause-whole s (q .at + 1) x y v k
@@ -139,7 +158,7 @@ module _ (s : List ℕ) (q : Progress State) (e : q .state .started ≡ true) wh
           clause-long r z m =
               on-rest _ (unless-passes (known x && known y) _ _ _ all-known (unless-passes (weightFits v) _ _ _ l (rw z (unless-fails (leb (length (clauseOf x y)) 64) _ _ (lt-leb _ 64 (rw z at m))))))
 
-          pub clause-in : length (clauseOf x y) ≤ 64 → folded q 17 (q .state .work) (within (add (clauseOf x y) v (q .state .lines))) ≡ onClause s q
+          pub clause-in : length (clauseOf x y) ≤ 64 → withItem q 17 (q .state .work) (weighted (clauseOf x y) v) ≡ onClause s q
           clause-in m =
               on-rest _ (unless-passes (known x && known y) _ _ _ all-known (unless-passes (weightFits v) _ _ _ l (unless-passes (leb (length (clauseOf x y)) 64) _ _ _ (le-leb _ 64 m) refl)))
 
@@ -170,9 +189,14 @@ module _ (s : List ℕ) (q : Progress State) where
   unfolding onRecord
   is-clause e = rw e
 
-  pub no-kind : (kind ≡ letterV → ⊥) → (kind ≡ letterM → ⊥) → (kind ≡ letterW → ⊥) → (kind ≡ letterC → ⊥) → refused (numbered 4) ≡ onRecord s q
+  pub is-hard : kind ≡ letterH → onHard q ≡ onRecord s q
   unfolding onRecord
-  no-kind a b c d = rw (ne-eqb kind letterV a, ne-eqb kind letterM b, ne-eqb kind letterW c, ne-eqb kind letterC d)
+  is-hard e = rw e
+
+  pub no-kind : (kind ≡ letterV → ⊥) → (kind ≡ letterM → ⊥) → (kind ≡ letterW → ⊥) → (kind ≡ letterC → ⊥) → (kind ≡ letterH → ⊥)
+      → refused (numbered 4) ≡ onRecord s q
+  unfolding onRecord
+  no-kind a b c d e = rw (ne-eqb kind letterV a, ne-eqb kind letterM b, ne-eqb kind letterW c, ne-eqb kind letterC d, ne-eqb kind letterH e)
 
 -- ---- the end: the answer, whether V came and whether the work polynomial is empty
 abbrev pub ending : ℕ → Bool → Bool → Told (Unit {0})

@@ -1,31 +1,32 @@
--- What a filing adds: the weighted polynomials of its accepted records, in their order; and polynomials as functions of n variables.
-use mathlib.Core.Bool.{Bool, true, cond, _&&_, Bool·beq}
+-- What a filing files: the items of its accepted records, in their order; and polynomials as functions of n variables.
+use mathlib.Core.Bool.{Bool, true, false, cond, not, _&&_, Bool·beq}
 use mathlib.Core.List.{List, [], _∷_}
 use Prim.Native.Nat.{ℕ, zero, suc, _+_, _^_}
-use lib.Dec.{eqb}
+use lib.Dec.{T, eqb}
 use lib.ListN.{length, getD}
 use Rattle.polynomial.specs.Polynomial.{eval, clauseOf}
-use Rattle.configuration.specs.Configuration.{Line, line}
-use Rattle.record.specs.Letters.{letterV, letterM, letterW, letterC}
+use Rattle.record.specs.Letters.{letterV, letterM, letterW, letterC, letterH}
 use Rattle.record.specs.Record.{numberAt, signedAt}
 use Rattle.walk.specs.Walk.{Progress, begun, gathered}
+use Rattle.problem.specs.Item.{Item, weighted, hard}
 use Rattle.problem.specs.Problem.{State, empty, filing}
 
--- what the record at the progress adds: at W the work polynomial, at C the clause's, each at its weight
-unfoldable pub entryOf : List ℕ → Progress State → List Line
+-- what the record at the progress files: at W the work polynomial and at C the clause's, each at its weight, and at H the work polynomial as a hard one
+unfoldable pub entryOf : List ℕ → Progress State → List Item
 entryOf s p =
     let kind = getD s (p .at) 0 in
     cond (eqb kind letterV) []
     (cond (eqb kind letterM) []
-    (cond (eqb kind letterW) (line (p .state .work) (signedAt s (p .at + 1)) ∷ [])
-    (cond (eqb kind letterC) (line (clauseOf (numberAt 4 s (p .at + 1)) (numberAt 4 s (p .at + 5))) (signedAt s (p .at + 9)) ∷ [])
-    [])))
+    (cond (eqb kind letterW) (weighted (p .state .work) (signedAt s (p .at + 1)) ∷ [])
+    (cond (eqb kind letterC) (weighted (clauseOf (numberAt 4 s (p .at + 1)) (numberAt 4 s (p .at + 5))) (signedAt s (p .at + 9)) ∷ [])
+    (cond (eqb kind letterH) (hard (p .state .work) ∷ [])
+    []))))
 
 -- the entries of the accepted records from a progress on, in some number of turns, and those of a filing
-abbrev pub entriesFrom : ℕ → List ℕ → Progress State → List Line
+abbrev pub entriesFrom : ℕ → List ℕ → Progress State → List Item
 entriesFrom k s p = gathered filing (λ s p q. entryOf s p) k s p
 
-abbrev pub entries : List ℕ → List Line
+abbrev pub entries : List ℕ → List Item
 entries s = entriesFrom (length s) s (begun empty)
 
 -- ---- two polynomials are one function of n variables
@@ -36,9 +37,13 @@ agreesBelow (suc k) f g = Bool·beq (eval f k) (eval g k) && agreesBelow k f g
 unfoldable pub agrees : ℕ → List ℕ → List ℕ → Bool
 agrees n f g = agreesBelow (2 ^ n) f g
 
--- ---- entries in another order
-pub data Permuted : List Line → List Line → Type 0 where
-  itself : (C : List Line) → Permuted C C
-  skip : (l : Line) (C D : List Line) → Permuted C D → Permuted (l ∷ C) (l ∷ D)
-  swap : (l m : Line) (C : List Line) → Permuted (l ∷ m ∷ C) (m ∷ l ∷ C)
-  trans : (C D E : List Line) → Permuted C D → Permuted D E → Permuted C E
+-- ---- entries in another order: two neighbours may change places unless both are hard, so that the hard ones keep their order
+abbrev pub isHard : Item → Bool
+isHard (weighted f w) = false
+isHard (hard f) = true
+
+pub data Permuted : List Item → List Item → Type 0 where
+  itself : (C : List Item) → Permuted C C
+  skip : (i : Item) (C D : List Item) → Permuted C D → Permuted (i ∷ C) (i ∷ D)
+  swap : (i j : Item) (C : List Item) → T (not (isHard i && isHard j)) → Permuted (i ∷ j ∷ C) (j ∷ i ∷ C)
+  trans : (C D E : List Item) → Permuted C D → Permuted D E → Permuted C E

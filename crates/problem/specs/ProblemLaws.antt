@@ -1,71 +1,88 @@
--- Laws of filing: the lines are the folded sum of the entries; they are a configuration, with positive weights; two filings of one problem, as functions and in
--- any order, make the same.
+-- Laws of filing: the lines are the folded sum of the weighted entries, and a configuration with positive weights; the hard list is the hard entries in their
+-- order; two filings of one problem, as functions and in any order in which the hard entries keep theirs, make the same.
 use mathlib.Core.Path.{_≡_, refl, sym, ap, ap₂, subst, _∙_}
 use mathlib.Core.Bool.{Bool, true, false, cond, not, _&&_, Bool·beq, true≢false}
 use mathlib.Core.List.{List, [], _∷_}
 use Prim.Native.Nat.{ℕ, zero, suc, _+_, _^_, _≤_, _<_}
+use native.Mathlib.Decide.{decLe}
 use native.Mathlib.Omega.{arith}
 use lib.Signed.{leZ}
-use lib.Dec.{le→leb, T, leb, leb→le, ltb, ltb→lt, nltb→le, eqb}
+use lib.Dec.{le→leb, T, leb, leb→le, ltb, ltb→lt, nltb→le, eqb, eqb→eq}
 use lib.IntN.{ℤ, pos, negsuc, _+ℤ_, +ℤ-idl}
-use lib.ListN.{length, getD}
+use lib.ListN.{length, getD, List·getD-eq-default}
 use Rattle.refusal.specs.Refusal.{Refusal, numbered}
-use Rattle.refusal.specs.Outcome.{Outcome, accepted, refused, unless, mapped, Told}
+use Rattle.refusal.specs.Outcome.{Outcome, accepted, refused, mapped, Told}
 use Rattle.run.specs.BooleanLaws.{bool-ext, is-true, of-true, not-both, both, cond-ind}
 use Rattle.polynomial.specs.Polynomial.{ZERO, eval, orderOf, sumOf, clauseOf}
 use Rattle.polynomial.specs.ClauseLaws.{clause-ordered, clause-below}
 use Rattle.configuration.specs.Weight.{isZero, isNegative, share}
 use Rattle.configuration.specs.Configuration.{lineFits, Line, line, some, same, total, weight, keep, fold, add, addAll, Every, isPolynomial, linesFit, weightsFit, anyNegative, isConfiguration}
 use Rattle.configuration.specs.SumLaws.{solve, v, _⊞_}
-use Rattle.configuration.specs.ConfigurationLaws.{fit-head, fit-tail, order-ind, same-is, same-self, same-none, same-changes, changes-append, all-fit}
+use Rattle.configuration.specs.ConfigurationLaws.{fit-head, fit-tail, order-ind, same-is, same-self, same-none, same-changes, all-fit}
 use Rattle.configuration.specs.LineLaws.{polynomial-below, polynomial-sorted, polynomial-is, none-polynomial, sum-sign, every-append, every-map, configuration-parts, parts-configuration}
-use Rattle.configuration.specs.Made.{Made}
-use Rattle.configuration.specs.Limits.{within}
-use Rattle.record.specs.Letters.{letterV, letterM, letterW, letterC}
+use Rattle.hard.specs.Hard.{allPolynomials, isHardList}
+use Rattle.hard.specs.HardLaws.{list-more}
+use Rattle.record.specs.Letters.{letterV, letterM, letterW, letterC, letterH}
 use Rattle.record.specs.Record.{whole, numberAt, signedAt}
 use Rattle.walk.specs.Walk.{Progress, begun, past, walk, readAll}
 use Rattle.walk.specs.WalkLaws.{unless-ind, IfAccepted, walk-ind, walk-keeps}
 use Rattle.walk.specs.WorkLaws.{term-ind, term-sum}
-use Rattle.problem.specs.Problem.{State, empty, having, weightFits, folded, onVariables, onTerm, onWeight, onClause, onRecord, filing, filed, fileProblem}
+use Rattle.problem.specs.Item.{Item, weighted, hard, Holding, nothingHeld, weightedItems, hardItems}
+use Rattle.problem.specs.ItemLaws.{joined, joinedAll, weighted-ind, hard-ind, joined-append, joined-all, weighted-append}
+use Rattle.problem.specs.Problem.{State, empty, having, weightFits, withItem, onVariables, onTerm, onWeight, onClause, onHard, onRecord, filing, FilingMade, filed, fileProblem}
 use Rattle.problem.specs.Entries.{entryOf, entriesFrom, entries, agreesBelow, agrees, Permuted, itself, skip, swap, trans}
 use Rattle.run.specs.BooleanLaws as B
 use Rattle.polynomial.specs.PolynomialLaws as P
 
--- ---- one record: what an accepted one passed, and what it adds
-folded-ind : (R : Outcome (Progress State) → Type 0) (p : Progress State) (size : ℕ) (work : List ℕ) (L : List Line) → ((x : Refusal) → R (refused x))
-    → (length L ≤ 128 → T (weightsFit L) → R (accepted (past p size (having work L (p .state))))) → R (folded p size work (within L))
-unfolding within
-folded-ind R p size work L nay yea = go (leb (length L) 128) (weightsFit L) (λ a b. yea (leb→le (length L) 128 a) b)
+-- ---- one record: what an accepted one passed, and what it files
+-- a letter is read within the bytes
+within-bytes : (s : List ℕ) (i k : ℕ) → 0 < k → getD s i 0 ≡ k → i < length s
+within-bytes s i k h e = go (decLe (length s) i)
   where
-    go : (a b : Bool) → (T a → T b → R (accepted (past p size (having work L (p .state))))) → R (folded p size work (unless a 10 (unless b 11 (accepted L))))
-    go true true k = k tt tt
-    go true false k = nay (numbered 11)
-    go false b k = nay (numbered 10)
+    go : Dec (length s ≤ i) → i < length s
+    go (yes l) = let x : ⊥ = omega (arith, List·getD-eq-default s 0 {n = i} l) in absurd x
+    go (no l) = omega (arith, l)
 
-module _ (s : List ℕ) (p : Progress State) (R : List Line → Outcome (Progress State) → Type 0) where
-  pub record-ind : ((C : List Line) (x : Refusal) → R C (refused x))
+-- an item is taken in, within the limits
+module _ (R : Outcome (Progress State) → Type 0) (p : Progress State) (size : ℕ) (work f : List ℕ) (nay : (x : Refusal) → R (refused x)) where
+  abbrev Then : Outcome Holding → Type 0
+  Then o = R (mapped (λ x. past p size (having work x (p .state))) o)
+
+  with-weighted : (w : ℤ) → (let L = add f w (p .state .holding .lines) in length L ≤ 128 → T (weightsFit L)
+      → R (accepted (past p size (having work (joined (weighted f w) (p .state .holding)) (p .state))))) → R (withItem p size work (weighted f w))
+  with-weighted w yea = weighted-ind Then f (p .state .holding) nay w yea
+
+  with-hard : (length (p .state .holding .hard) < 16 → R (accepted (past p size (having work (joined (hard f) (p .state .holding)) (p .state)))))
+      → R (withItem p size work (hard f))
+  with-hard yea = hard-ind Then f (p .state .holding) nay yea
+
+module _ (s : List ℕ) (p : Progress State) (R : List Item → Outcome (Progress State) → Type 0) where
+  pub record-ind : ((C : List Item) (x : Refusal) → R C (refused x))
       → (T (not (p .state .started)) → T (whole 1 s (p .at + 1)) → numberAt 1 s (p .at + 1) ≤ 32
-      → R [] (accepted (past p 2 (record { started = true; variables = numberAt 1 s (p .at + 1); work = ZERO; lines = [] }))))
+      → R [] (accepted (past p 2 (record { started = true; variables = numberAt 1 s (p .at + 1); work = p .state .work; holding = p .state .holding }))))
       → ((t : ℕ) → T (p .state .started) → T (whole 4 s (p .at + 1)) → t < 2 ^ (p .state .variables) → T (leb (length (sumOf (t ∷ []) (p .state .work))) 64)
-      → R [] (accepted (past p 5 (having (sumOf (t ∷ []) (p .state .work)) (p .state .lines) (p .state)))))
+      → R [] (accepted (past p 5 (having (sumOf (t ∷ []) (p .state .work)) (p .state .holding) (p .state)))))
       → ((w : ℤ) → T (p .state .started) → T (whole 8 s (p .at + 1)) → T (weightFits w)
-      → length (add (p .state .work) w (p .state .lines)) ≤ 128 → T (weightsFit (add (p .state .work) w (p .state .lines)))
-      → R (line (p .state .work) w ∷ []) (accepted (past p 9 (having ZERO (add (p .state .work) w (p .state .lines)) (p .state)))))
+      → length (add (p .state .work) w (p .state .holding .lines)) ≤ 128 → T (weightsFit (add (p .state .work) w (p .state .holding .lines)))
+      → R (weighted (p .state .work) w ∷ []) (accepted (past p 9 (having ZERO (joined (weighted (p .state .work) w) (p .state .holding)) (p .state)))))
       → ((a b : ℕ) (w : ℤ) → T (p .state .started) → T (whole 16 s (p .at + 1)) → a < 2 ^ (p .state .variables) → b < 2 ^ (p .state .variables) → T (weightFits w)
-      → T (leb (length (clauseOf a b)) 64) → length (add (clauseOf a b) w (p .state .lines)) ≤ 128 → T (weightsFit (add (clauseOf a b) w (p .state .lines)))
-      → R (line (clauseOf a b) w ∷ []) (accepted (past p 17 (having (p .state .work) (add (clauseOf a b) w (p .state .lines)) (p .state)))))
+      → T (leb (length (clauseOf a b)) 64) → length (add (clauseOf a b) w (p .state .holding .lines)) ≤ 128 → T (weightsFit (add (clauseOf a b) w (p .state .holding .lines)))
+      → R (weighted (clauseOf a b) w ∷ []) (accepted (past p 17 (having (p .state .work) (joined (weighted (clauseOf a b) w) (p .state .holding)) (p .state)))))
+      → (p .at < length s → T (p .state .started) → length (p .state .holding .hard) < 16
+      → R (hard (p .state .work) ∷ []) (accepted (past p 1 (having ZERO (joined (hard (p .state .work)) (p .state .holding)) (p .state)))))
       → R (entryOf s p) (onRecord s p)
   unfolding entryOf onRecord
-  record-ind nay onV onM onW onC = go (eqb (getD s (p .at) 0) letterV) (eqb (getD s (p .at) 0) letterM) (eqb (getD s (p .at) 0) letterW) (eqb (getD s (p .at) 0) letterC)
+  record-ind nay onV onM onW onC onH =
+      go (eqb kind letterV) (eqb kind letterM) (eqb kind letterW) (eqb kind letterC) (eqb kind letterH) (λ h. within-bytes s (p .at) letterH (omega arith) (eqb→eq kind letterH h))
     where
+      kind : ℕ
+      kind = getD s (p .at) 0
+
       n : ℕ
       n = p .state .variables
 
       f : List ℕ
       f = p .state .work
-
-      L : List Line
-      L = p .state .lines
 
       x : ℕ
       x = numberAt 4 s (p .at + 1)
@@ -79,47 +96,43 @@ module _ (s : List ℕ) (p : Progress State) (R : List Line → Outcome (Progres
       w : ℤ
       w = signedAt s (p .at + 9)
 
-      go : (a b d e : Bool)
-          → R (cond a [] (cond b [] (cond d (line f u ∷ []) (cond e (line (clauseOf x y) w ∷ []) []))))
-          (cond a (onVariables s p) (cond b (onTerm s p) (cond d (onWeight s p) (cond e (onClause s p) (refused (numbered 4))))))
-      go true b d e =
+      go : (a b d e g : Bool) → (T g → p .at < length s)
+          → R (cond a [] (cond b [] (cond d (weighted f u ∷ []) (cond e (weighted (clauseOf x y) w ∷ []) (cond g (hard f ∷ []) [])))))
+          (cond a (onVariables s p) (cond b (onTerm s p) (cond d (onWeight s p) (cond e (onClause s p) (cond g (onHard p) (refused (numbered 4)))))))
+      go true b d e g at =
           unless-ind (R []) (not (p .state .started)) _ (nay []) (λ h. unless-ind (R []) (whole 1 s (p .at + 1)) _ (nay []) (λ i.
           unless-ind (R []) (leb (numberAt 1 s (p .at + 1)) 32) _ (nay []) (λ j. onV h i (leb→le (numberAt 1 s (p .at + 1)) 32 j))))
-      go false true d e =
+      go false true d e g at =
           unless-ind (R []) (p .state .started) _ (nay []) (λ h.
-          term-ind n s (p .at + 1) f (λ r. R [] (mapped (λ g. past p 5 (having g L (p .state))) r)) (nay []) (λ i j k. onM x h i j k))
-      go false false true e =
-          let C : List Line = line f u ∷ [] in
+          term-ind n s (p .at + 1) f (λ r. R [] (mapped (λ g. past p 5 (having g (p .state .holding) (p .state))) r)) (nay []) (λ i j k. onM x h i j k))
+      go false false true e g at =
+          let C : List Item = weighted f u ∷ [] in
           unless-ind (R C) (p .state .started) _ (nay C) (λ h. unless-ind (R C) (whole 8 s (p .at + 1)) _ (nay C) (λ i. unless-ind (R C) (weightFits u) _ (nay C) (λ j.
-          folded-ind (R C) p 9 ZERO (add f u L) (nay C) (λ k l. onW u h i j k l))))
-      go false false false true =
-          let C : List Line = line (clauseOf x y) w ∷ [] in
+          with-weighted (R C) p 9 ZERO f (nay C) u (λ k l. onW u h i j k l))))
+      go false false false true g at =
+          let C : List Item = weighted (clauseOf x y) w ∷ [] in
           unless-ind (R C) (p .state .started) _ (nay C) (λ h. unless-ind (R C) (whole 16 s (p .at + 1)) _ (nay C) (λ i.
           unless-ind (R C) (ltb x (2 ^ n) && ltb y (2 ^ n)) _ (nay C) (λ j. unless-ind (R C) (weightFits w) _ (nay C) (λ k.
-          unless-ind (R C) (leb (length (clauseOf x y)) 64) _ (nay C) (λ l. folded-ind (R C) p 17 f (add (clauseOf x y) w L) (nay C)
+          unless-ind (R C) (leb (length (clauseOf x y)) 64) _ (nay C) (λ l. with-weighted (R C) p 17 f (clauseOf x y) (nay C) w
           (λ m o. onC x y w h i (ltb→lt x (2 ^ n) (B.left (ltb x (2 ^ n)) (ltb y (2 ^ n)) j)) (ltb→lt y (2 ^ n) (B.right (ltb x (2 ^ n)) (ltb y (2 ^ n)) j)) k l m o))))))
-      go false false false false = nay [] (numbered 4)
+      go false false false false true at =
+          let C : List Item = hard f ∷ [] in
+          unless-ind (R C) (p .state .started) _ (nay C) (λ h. with-hard (R C) p 1 ZERO f (nay C) (λ k. onH (at tt) h k))
+      go false false false false false at = nay [] (numbered 4)
 
--- ---- the configuration is the folded sum of the entries
--- before V there are no lines
-abbrev pub NoneYet : State → Type 0
-NoneYet x = T (not (x .started)) → x .lines ≡ []
+-- ---- what is held is what the entries make
+-- an accepted record takes in what it files, and V has come
+pub record-joined : (s : List ℕ) (p q : Progress State) → onRecord s p ≡ accepted q
+    → (q .state .holding ≡ joinedAll (entryOf s p) (p .state .holding)) × T (q .state .started)
+unfolding joinedAll
+record-joined s p q e =
+    rw e at (record-ind s p (λ C r. IfAccepted (λ q. (q .state .holding ≡ joinedAll C (p .state .holding)) × T (q .state .started)) r)
+    (λ C n. tt) (λ h i j. (refl, tt)) (λ t h i j k. (refl, tt)) (λ w h i j k l. (refl, tt)) (λ a b w h i j k l m n o. (refl, tt)) (λ h i j. (refl, tt)))
 
--- an accepted record adds its entry, and V has come
-pub record-lines : (s : List ℕ) (p q : Progress State) → NoneYet (p .state) → onRecord s p ≡ accepted q
-    → (q .state .lines ≡ addAll (entryOf s p) (p .state .lines)) × T (q .state .started)
-unfolding addAll
-record-lines s p q f e =
-    rw e at (record-ind s p (λ C r. IfAccepted (λ q. (q .state .lines ≡ addAll C (p .state .lines)) × T (q .state .started)) r)
-    (λ C n. tt) (λ h i j. (sym (f h), tt)) (λ t h i j k. (refl, tt)) (λ w h i j k l. (refl, tt)) (λ a b w h i j k l m n o. (refl, tt)))
-
-pub filing-lines : (k : ℕ) (s : List ℕ) (p : Progress State) → NoneYet (p .state)
-    → (walk filing k s p) .reached .state .lines ≡ addAll (entriesFrom k s p) (p .state .lines)
-unfolding addAll
-filing-lines k s = walk-ind filing (λ s p q. entryOf s p) (λ p F C. NoneYet (p .state) → F .reached .state .lines ≡ addAll C (p .state .lines)) s (λ p f. refl) (λ p n e f. refl)
-    (λ p q F C e rest f.
-    let d : (q .state .lines ≡ addAll (entryOf s p) (p .state .lines)) × T (q .state .started) = record-lines s p q f e in
-    rest (λ h. absurd (not-both (q .state .started) (d .1) h)) ∙ ap (addAll C) (d .0) ∙ sym (changes-append (entryOf s p) C (p .state .lines))) k
+pub filing-joined : (k : ℕ) (s : List ℕ) (p : Progress State) → (walk filing k s p) .reached .state .holding ≡ joinedAll (entriesFrom k s p) (p .state .holding)
+unfolding joinedAll
+filing-joined k s = walk-ind filing (λ s p q. entryOf s p) (λ p F C. F .reached .state .holding ≡ joinedAll C (p .state .holding)) s (λ p. refl) (λ p n e. refl)
+    (λ p q F C e rest. rest ∙ ap (joinedAll C) (record-joined s p q e .0) ∙ sym (joined-append (entryOf s p) C (p .state .holding))) k
 
 -- ---- signs: a positive amount makes no line negative
 filing-sign : (w : ℤ) → T (weightFits w) → isNegative w ≡ false
@@ -155,24 +168,38 @@ add-sign (t ∷ f) w L h k = fold-sign (t ∷ f) w L h k
 
 -- ---- what holds of every state; before V nothing is held
 pub record Sound (x : State) : Type 0 where
-  pub configuration : T (isConfiguration (x .variables) (x .lines))
-  pub signs : anyNegative (x .lines) ≡ false
+  pub configuration : T (isConfiguration (x .variables) (x .holding .lines))
+  pub signs : anyNegative (x .holding .lines) ≡ false
+  pub listed : T (isHardList (x .variables) (x .holding .hard))
   pub polynomial : T (isPolynomial (x .variables) (x .work))
-  pub fresh : T (not (x .started)) → (x .variables ≡ 0) × (x .work ≡ ZERO) × (x .lines ≡ [])
+  pub fresh : T (not (x .started)) → (x .variables ≡ 0) × (x .work ≡ ZERO) × (x .holding ≡ nothingHeld)
 
 pub sound-empty : Sound empty
-unfolding linesFit weightsFit anyNegative
-sound-empty = record { configuration = tt; signs = refl; polynomial = none-polynomial 0; fresh = λ h. (refl, refl, refl) }
+unfolding linesFit weightsFit anyNegative allPolynomials
+sound-empty = record { configuration = tt; signs = refl; listed = tt; polynomial = none-polynomial 0; fresh = λ h. (refl, refl, refl) }
 
--- a weighted polynomial is added, within the limits
-sound-added : (x : State) (work f : List ℕ) (w : ℤ) → Sound x → T (isPolynomial (x .variables) work) → T (isPolynomial (x .variables) f) → T (weightFits w)
-    → length (add f w (x .lines)) ≤ 128 → T (weightsFit (add f w (x .lines))) → Sound (having work (add f w (x .lines)) x)
+-- nothing is held, of n variables
+sound-none : (n : ℕ) → n ≤ 32 → Sound (record { started = true; variables = n; work = ZERO; holding = nothingHeld })
+unfolding linesFit weightsFit anyNegative allPolynomials
+sound-none n l = record {
+  configuration = parts-configuration n [] (record { variables = l; room = omega arith; fit = tt; weights = tt });
+  signs = refl;
+  listed = tt;
+  polynomial = none-polynomial n;
+  fresh = λ h. absurd h;
+}
+
+-- a weighted polynomial is taken in, within the limits
+sound-weighted : (x : State) (work f : List ℕ) (w : ℤ) → Sound x → T (isPolynomial (x .variables) work) → T (isPolynomial (x .variables) f) → T (weightFits w)
+    → (let L = add f w (x .holding .lines) in length L ≤ 128 → T (weightsFit L) → Sound (having work (joined (weighted f w) (x .holding)) x))
 unfolding addAll
-sound-added x work f w o g h i j k =
-    let c = configuration-parts (x .variables) (x .lines) (o .configuration) in record {
-      configuration = parts-configuration (x .variables) (add f w (x .lines))
-          (record { variables = c .variables; room = j; fit = all-fit (x .variables) (line f w ∷ []) (x .lines) (h, tt) (c .fit); weights = k });
-      signs = add-sign f w (x .lines) (filing-sign w i) (o .signs);
+sound-weighted x work f w o g h i j k =
+    let L : List Line = x .holding .lines in
+    let c = configuration-parts (x .variables) L (o .configuration) in record {
+      configuration = parts-configuration (x .variables) (add f w L)
+          (record { variables = c .variables; room = j; fit = all-fit (x .variables) (line f w ∷ []) L (h, tt) (c .fit); weights = k });
+      signs = add-sign f w L (filing-sign w i) (o .signs);
+      listed = o .listed;
       polynomial = g;
       fresh = λ n. absurd n;
     }
@@ -181,23 +208,25 @@ pub clause-polynomial : (n a b : ℕ) → a < 2 ^ n → b < 2 ^ n → T (leb (le
 clause-polynomial n a b h k l = polynomial-is n (clauseOf a b) l (clause-below n a b h k) (clause-ordered a b)
 
 pub sound-record : (s : List ℕ) (p q : Progress State) → onRecord s p ≡ accepted q → Sound (p .state) → Sound (q .state)
-unfolding linesFit weightsFit anyNegative
 sound-record s p q e o = rw e at (record-ind s p (λ C r. IfAccepted (λ q. Sound (q .state)) r)
     (λ C n. tt)
-    (λ h i j. record {
-      configuration = parts-configuration (numberAt 1 s (p .at + 1)) [] (record { variables = j; room = omega arith; fit = tt; weights = tt });
-      signs = refl;
-      polynomial = none-polynomial (numberAt 1 s (p .at + 1));
-      fresh = λ n. absurd n;
-    })
+    (λ h i j. rw (o .fresh h .1, o .fresh h .2) (sound-none (numberAt 1 s (p .at + 1)) j))
     (λ t h i j k. record {
       configuration = o .configuration;
       signs = o .signs;
+      listed = o .listed;
       polynomial = term-sum (p .state .variables) t (p .state .work) j k (o .polynomial);
       fresh = λ n. absurd n;
     })
-    (λ w h i j k l. sound-added (p .state) ZERO (p .state .work) w o (none-polynomial (p .state .variables)) (o .polynomial) j k l)
-    (λ a b w h i j k l m n r. sound-added (p .state) (p .state .work) (clauseOf a b) w o (o .polynomial) (clause-polynomial (p .state .variables) a b j k m) l n r))
+    (λ w h i j k l. sound-weighted (p .state) ZERO (p .state .work) w o (none-polynomial (p .state .variables)) (o .polynomial) j k l)
+    (λ a b w h i j k l m n r. sound-weighted (p .state) (p .state .work) (clauseOf a b) w o (o .polynomial) (clause-polynomial (p .state .variables) a b j k m) l n r)
+    (λ h i j. record {
+      configuration = o .configuration;
+      signs = o .signs;
+      listed = list-more (p .state .variables) (p .state .holding .hard) (p .state .work) j (o .listed) (o .polynomial);
+      polynomial = none-polynomial (p .state .variables);
+      fresh = λ n. absurd n;
+    }))
 
 pub sound-filing : (k : ℕ) (s : List ℕ) (p : Progress State) → Sound (p .state) → Sound ((walk filing k s p) .reached .state)
 sound-filing k s p o = walk-keeps filing (λ q. Sound (q .state)) s (λ p q e h. sound-record s p q e h) k p o
@@ -210,9 +239,16 @@ pub filed-configuration : (s : List ℕ) → T (isConfiguration (fileProblem s .
 unfolding fileProblem
 filed-configuration s = filed-sound s .configuration
 
-pub filed-entries : (s : List ℕ) → fileProblem s .lines ≡ addAll (entries s) []
+pub filed-hard : (s : List ℕ) → T (isHardList (fileProblem s .variables) (fileProblem s .hard))
 unfolding fileProblem
-filed-entries s = filing-lines (length s) s (begun empty) (λ z. refl)
+filed-hard s = filed-sound s .listed
+
+-- the lines are the folded sum of the weighted entries, and the hard list is the hard ones
+pub filed-entries : (s : List ℕ) → (fileProblem s .lines ≡ addAll (weightedItems (entries s)) []) × (fileProblem s .hard ≡ hardItems (entries s))
+unfolding fileProblem
+filed-entries s =
+    let e = filing-joined (length s) s (begun empty) ∙ joined-all (entries s) nothingHeld in
+    (ap (λ (x : Holding). x .lines) e, ap (λ (x : Holding). x .hard) e)
 
 -- every weight is at least 1
 abbrev pub Positive : List Line → Type 0
@@ -236,7 +272,7 @@ pub filed-positive : (s : List ℕ) → Positive (fileProblem s .lines)
 unfolding fileProblem
 filed-positive s =
     let x : State = (readAll filing s empty) .reached .state in
-    all-positive (x .variables) (x .lines) (configuration-parts (x .variables) (x .lines) (filed-sound s .configuration) .fit) (filed-sound s .signs)
+    all-positive (x .variables) (x .holding .lines) (configuration-parts (x .variables) (x .holding .lines) (filed-sound s .configuration) .fit) (filed-sound s .signs)
 
 -- ---- polynomials of n variables are one function just where they are the same
 beq-is : (a b : Bool) → T (Bool·beq a b) → a ≡ b
@@ -309,32 +345,34 @@ module _ (n : ℕ) (C D : List Line) (c : Every (λ f. T (isPolynomial n f)) C) 
   pub same-sum : addAll C [] ≡ addAll D []
   same-sum = same-changes C D [] tt same-weight
 
--- ---- the entries are polynomials of the variables that are filed
-abbrev pub Fitting : ℕ → List Line → Type 0
-Fitting n C = Every (λ f. T (isPolynomial n f)) C
+-- ---- the weighted entries are polynomials of the variables that are filed
+abbrev pub Fitting : ℕ → List Item → Type 0
+Fitting n C = Every (λ f. T (isPolynomial n f)) (weightedItems C)
 
 entry-fit : (s : List ℕ) (p q : Progress State) → Sound (p .state) → onRecord s p ≡ accepted q → Fitting (q .state .variables) (entryOf s p)
+unfolding weightedItems
 entry-fit s p q o e = rw e at (record-ind s p (λ C r. IfAccepted (λ q. Fitting (q .state .variables) C) r)
     (λ C n. tt) (λ h i j. tt) (λ t h i j k. tt) (λ w h i j k l. (o .polynomial, tt))
-    (λ a b w h i j k l m n r. (clause-polynomial (p .state .variables) a b j k m, tt)))
+    (λ a b w h i j k l m n r. (clause-polynomial (p .state .variables) a b j k m, tt)) (λ h i j. tt))
 
 -- V comes once
 record-variables : (s : List ℕ) (p q : Progress State) → T (p .state .started) → onRecord s p ≡ accepted q
     → (q .state .variables ≡ p .state .variables) × T (q .state .started)
 record-variables s p q b e = rw e at (record-ind s p (λ C r. IfAccepted (λ q. (q .state .variables ≡ p .state .variables) × T (q .state .started)) r)
-    (λ C n. tt) (λ h i j. absurd (not-both (p .state .started) b h)) (λ t h i j k. (refl, tt)) (λ w h i j k l. (refl, tt)) (λ a b w h i j k l m n o. (refl, tt)))
+    (λ C n. tt) (λ h i j. absurd (not-both (p .state .started) b h)) (λ t h i j k. (refl, tt)) (λ w h i j k l. (refl, tt)) (λ a b w h i j k l m n o. (refl, tt)) (λ h i j. (refl, tt)))
 
 -- the variables stay from V on
 fitting-walk : (s : List ℕ) (k : ℕ) (p : Progress State)
     → (T (p .state .started) → (walk filing k s p) .reached .state .variables ≡ p .state .variables)
     × (Sound (p .state) → Fitting ((walk filing k s p) .reached .state .variables) (entriesFrom k s p))
+unfolding weightedItems
 fitting-walk s = walk-ind filing (λ s p q. entryOf s p)
     (λ p F C. (T (p .state .started) → F .reached .state .variables ≡ p .state .variables) × (Sound (p .state) → Fitting (F .reached .state .variables) C)) s
     (λ p. (λ h. refl, λ o. tt)) (λ p n e. (λ h. refl, λ o. tt)) (λ p q F C e rest. (
       λ h. rest .0 (record-variables s p q h e .1) ∙ record-variables s p q h e .0,
-      λ o. every-append (λ f. T (isPolynomial (F .reached .state .variables) f)) (entryOf s p) C
-          (subst (λ (n : ℕ). Fitting n (entryOf s p)) (sym (rest .0 (record-lines s p q (λ h. o .fresh h .2) e .1))) (entry-fit s p q o e))
-          (rest .1 (sound-record s p q e o)),
+      λ o. rw (weighted-append (entryOf s p) C) (every-append (λ f. T (isPolynomial (F .reached .state .variables) f)) (weightedItems (entryOf s p)) (weightedItems C)
+          (subst (λ (n : ℕ). Fitting n (entryOf s p)) (sym (rest .0 (record-joined s p q e .1))) (entry-fit s p q o e))
+          (rest .1 (sound-record s p q e o))),
     ))
 
 pub entries-fit : (k : ℕ) (s : List ℕ) (p : Progress State) → Sound (p .state)
@@ -345,33 +383,49 @@ pub filed-fitting : (s : List ℕ) → Fitting (fileProblem s .variables) (entri
 unfolding fileProblem
 filed-fitting s = entries-fit (length s) s (begun empty) sound-empty
 
--- ---- one problem: if every polynomial function other than 0 has the same total weight among the entries of two accepted filings, they make the same
+-- ---- one problem: if every polynomial function other than 0 has the same total weight among the weighted entries of two accepted filings, and the hard ones
+-- are the same in the same order, they make the same
 pub same-problem : (s t : List ℕ) → fileProblem s .told ≡ filed → fileProblem t .told ≡ filed → fileProblem s .variables ≡ fileProblem t .variables
     → ((f : List ℕ) → agrees (fileProblem s .variables) f ZERO ≡ false
-    → total (agrees (fileProblem s .variables) f) (entries s) ≡ total (agrees (fileProblem s .variables) f) (entries t))
+    → total (agrees (fileProblem s .variables) f) (weightedItems (entries s)) ≡ total (agrees (fileProblem s .variables) f) (weightedItems (entries t)))
+    → hardItems (entries s) ≡ hardItems (entries t)
     → fileProblem s ≡ fileProblem t
-same-problem s t es et e h =
+same-problem s t es et e h k =
     let n : ℕ = fileProblem s .variables in
     let d : Fitting n (entries t) = subst (λ (n : ℕ). Fitting n (entries t)) (sym e) (filed-fitting t) in
     let lines : fileProblem s .lines ≡ fileProblem t .lines =
-    filed-entries s ∙ same-sum n (entries s) (entries t) (filed-fitting s) d h ∙ sym (filed-entries t) in
-    made-same (fileProblem s) (fileProblem t) e lines (es ∙ sym et)
+    filed-entries s .0 ∙ same-sum n (weightedItems (entries s)) (weightedItems (entries t)) (filed-fitting s) d h ∙ sym (filed-entries t .0) in
+    filing-same (fileProblem s) (fileProblem t) e (filed-entries s .1 ∙ k ∙ sym (filed-entries t .1)) lines (es ∙ sym et)
   where
-    made-same : (a b : Made (Unit {0})) → a .variables ≡ b .variables → a .lines ≡ b .lines → a .told ≡ b .told → a ≡ b
-    made-same a b i j k =
-        ap₂ (λ (n : ℕ) (L : List Line). record { variables = n; lines = L; told = a .told }) i j
-        ∙ ap (λ (x : Told (Unit {0})). record { variables = b .variables; lines = b .lines; told = x }) k
+    filing-same : (a b : FilingMade) → a .variables ≡ b .variables → a .hard ≡ b .hard → a .lines ≡ b .lines → a .told ≡ b .told → a ≡ b
+    filing-same a b h i j k =
+        ap₂ (λ (n : ℕ) (H : List (List ℕ)). record { variables = n; hard = H; lines = a .lines; told = a .told }) h i
+        ∙ ap₂ (λ (L : List Line) (x : Told (Unit {0})). record { variables = b .variables; hard = b .hard; lines = L; told = x }) j k
 
--- ---- in any order of entry
-total-permuted : (test : List ℕ → Bool) {C D : List Line} → Permuted C D → total test C ≡ total test D
-unfolding total
+-- ---- in any order of entry in which the hard ones keep theirs
+total-permuted : (test : List ℕ → Bool) {C D : List Item} → Permuted C D → total test (weightedItems C) ≡ total test (weightedItems D)
+unfolding total weightedItems
 total-permuted test (itself C) = refl
-total-permuted test (skip (line f w) C D h) = ap (λ (z : ℤ). share (test f) w +ℤ z) (total-permuted test h)
-total-permuted test (swap (line f u) (line g w) C) =
-    solve (share (test f) u ∷ share (test g) w ∷ total test C ∷ []) (v 0 ⊞ (v 1 ⊞ v 2)) (v 1 ⊞ (v 0 ⊞ v 2)) tt
+total-permuted test (skip (weighted f w) C D h) = ap (λ (z : ℤ). share (test f) w +ℤ z) (total-permuted test h)
+total-permuted test (skip (hard f) C D h) = total-permuted test h
+total-permuted test (swap (weighted f u) (weighted g w) C n) =
+    solve (share (test f) u ∷ share (test g) w ∷ total test (weightedItems C) ∷ []) (v 0 ⊞ (v 1 ⊞ v 2)) (v 1 ⊞ (v 0 ⊞ v 2)) tt
+total-permuted test (swap (weighted f u) (hard g) C n) = refl
+total-permuted test (swap (hard f) j C n) = refl
 total-permuted test (trans C D E h k) = total-permuted test h ∙ total-permuted test k
+
+hard-permuted : {C D : List Item} → Permuted C D → hardItems C ≡ hardItems D
+unfolding hardItems
+hard-permuted (itself C) = refl
+hard-permuted (skip (weighted f w) C D h) = hard-permuted h
+hard-permuted (skip (hard f) C D h) = ap (λ (H : List (List ℕ)). f ∷ H) (hard-permuted h)
+hard-permuted (swap (weighted f u) j C n) = refl
+hard-permuted (swap (hard f) (weighted g w) C n) = refl
+hard-permuted (swap (hard f) (hard g) C n) = absurd n
+hard-permuted (trans C D E h k) = hard-permuted h ∙ hard-permuted k
 
 -- permuted entries satisfy what same-problem asks
 pub permuted : (s t : List ℕ) (n : ℕ) → Permuted (entries s) (entries t)
-    → (f : List ℕ) → agrees n f ZERO ≡ false → total (agrees n f) (entries s) ≡ total (agrees n f) (entries t)
-permuted s t n h f e = total-permuted (agrees n f) h
+    → ((f : List ℕ) → agrees n f ZERO ≡ false → total (agrees n f) (weightedItems (entries s)) ≡ total (agrees n f) (weightedItems (entries t)))
+    × (hardItems (entries s) ≡ hardItems (entries t))
+permuted s t n h = (λ f e. total-permuted (agrees n f) h, hard-permuted h)

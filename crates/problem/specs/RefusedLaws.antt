@@ -11,15 +11,15 @@ use lib.Seq.{getD-take}
 use Rattle.refusal.specs.Refusal.{Refusal, numbered}
 use Rattle.refusal.specs.Outcome.{Outcome, accepted, refused, unless, passing, mapped, refusedFor, Reached, refusedAt}
 use Rattle.polynomial.specs.Polynomial.{ZERO, clauseOf}
-use Rattle.configuration.specs.Configuration.{Line, add}
-use Rattle.configuration.specs.Limits.{short, within}
-use Rattle.record.specs.Letters.{letterV, letterM, letterW, letterC}
+use Rattle.configuration.specs.Limits.{short}
+use Rattle.record.specs.Letters.{letterV, letterM, letterW, letterC, letterH}
 use Rattle.record.specs.Record.{whole, numberAt, signed, signedAt}
 use Rattle.record.specs.RecordLaws.{number-take, whole-take}
 use Rattle.walk.specs.Walk.{Progress, begun, past, readAll, RefusedNext, acceptedBytes}
 use Rattle.walk.specs.Work.{termAdded}
 use Rattle.walk.specs.WalkLaws.{told-refused, Ends, same-outcome, unless-ind, mapped-ind, IfAccepted, Local, refused-record, accepted-bytes}
-use Rattle.problem.specs.Problem.{State, empty, having, weightFits, folded, onVariables, onTerm, onWeight, onClause, onRecord, filing, fileProblem}
+use Rattle.problem.specs.Item.{Item, weighted, hard, takeIn}
+use Rattle.problem.specs.Problem.{State, empty, having, weightFits, withItem, onVariables, onTerm, onWeight, onClause, onHard, onRecord, filing, fileProblem}
 use Rattle.problem.specs.ProblemLaws.{record-ind}
 use Rattle.walk.specs.WorkLaws as W
 
@@ -30,22 +30,23 @@ record-inside s p q e = rw e at (record-ind s p (λ C r. IfAccepted (λ q. (p .a
     (λ h i j. (omega arith, omega (arith, leb→le (p .at + 1 + 1) (length s) i), refl))
     (λ t h i j k. (omega arith, omega (arith, leb→le (p .at + 1 + 4) (length s) i), refl))
     (λ w h i j k l. (omega arith, omega (arith, leb→le (p .at + 1 + 8) (length s) i), refl))
-    (λ a b w h i j k l m n o. (omega arith, omega (arith, leb→le (p .at + 1 + 16) (length s) i), refl)))
+    (λ a b w h i j k l m n o. (omega arith, omega (arith, leb→le (p .at + 1 + 16) (length s) i), refl))
+    (λ h i j. (omega arith, omega arith, refl)))
 
 -- ---- the first K bytes give the same record, where it ends within them
 module _ (s : List ℕ) (p : Progress State) (K : ℕ) (l : K ≤ length s) where
   variables-take : p .at + 2 ≤ K → onVariables (take K s) p ≡ onVariables s p
   variables-take h = ap₂ (λ (b : Bool) (x : ℕ). unless (not (p .state .started)) 4 (unless b 3 (unless (leb x 32) 5
-      (accepted (past p 2 (record { started = true; variables = x; work = ZERO; lines = [] }))))))
+      (accepted (past p 2 (record { started = true; variables = x; work = p .state .work; holding = p .state .holding }))))))
       (whole-take 1 (p .at + 1) K s (omega arith) l) (number-take 1 (p .at + 1) K s (omega arith))
 
   term-take : p .at + 5 ≤ K → onTerm (take K s) p ≡ onTerm s p
-  term-take h = ap (λ (r : Outcome (List ℕ)). unless (p .state .started) 4 (mapped (λ f. past p 5 (having f (p .state .lines) (p .state))) r))
+  term-take h = ap (λ (r : Outcome (List ℕ)). unless (p .state .started) 4 (mapped (λ f. past p 5 (having f (p .state .holding) (p .state))) r))
       (W.term-take (p .state .variables) s (p .at + 1) (p .state .work) K l (omega arith))
 
   weight-take : p .at + 9 ≤ K → onWeight (take K s) p ≡ onWeight s p
   weight-take h = ap₂ (λ (b : Bool) (x : ℕ). unless (p .state .started) 4 (unless b 3 (unless (weightFits (signed x)) 8
-      (folded p 9 ZERO (within (add (p .state .work) (signed x) (p .state .lines)))))))
+      (withItem p 9 ZERO (weighted (p .state .work) (signed x))))))
       (whole-take 8 (p .at + 1) K s (omega arith) l) (number-take 8 (p .at + 1) K s (omega arith))
 
   clause-take : p .at + 17 ≤ K → onClause (take K s) p ≡ onClause s p
@@ -58,12 +59,11 @@ module _ (s : List ℕ) (p : Progress State) (K : ℕ) (l : K ≤ length s) wher
       with : Bool → ℕ → ℕ → ℕ → Outcome (Progress State)
       with b x y z = unless (p .state .started) 4 (unless b 3 (unless (ltb x (2 ^ (p .state .variables)) && ltb y (2 ^ (p .state .variables))) 6
           (unless (weightFits (signed z)) 8 (passing (short (clauseOf x y) ∷ [])
-          (folded p 17 (p .state .work) (within (add (clauseOf x y) (signed z) (p .state .lines))))))))
+          (withItem p 17 (p .state .work) (weighted (clauseOf x y) (signed z)))))))
 
 -- where a record of each kind ends, if it is accepted
-ends-folded : (p : Progress State) (size : ℕ) (work : List ℕ) (t : Outcome (List Line)) → Ends (p .at + size) (folded p size work t)
-ends-folded p size work (accepted L) = refl
-ends-folded p size work (refused n) = tt
+ends-item : (p : Progress State) (size : ℕ) (work : List ℕ) (i : Item) → Ends (p .at + size) (withItem p size work i)
+ends-item p size work i = mapped-ind (Ends (p .at + size)) (λ x. past p size (having work x (p .state))) (takeIn i (p .state .holding)) (λ r. tt) (λ x e. refl)
 
 module _ (s : List ℕ) (p : Progress State) where
   ends-variables : Ends (p .at + 2) (onVariables s p)
@@ -75,7 +75,7 @@ module _ (s : List ℕ) (p : Progress State) where
   ends-term : Ends (p .at + 5) (onTerm s p)
   ends-term =
       let E : Outcome (Progress State) → Type 0 = Ends (p .at + 5) in
-      unless-ind E (p .state .started) _ (λ r. tt) (λ h. mapped-ind E (λ f. past p 5 (having f (p .state .lines) (p .state)))
+      unless-ind E (p .state .started) _ (λ r. tt) (λ h. mapped-ind E (λ f. past p 5 (having f (p .state .holding) (p .state)))
       (termAdded (p .state .variables) s (p .at + 1) (p .state .work)) (λ r. tt) (λ f e. refl))
 
   ends-weight : Ends (p .at + 9) (onWeight s p)
@@ -83,7 +83,7 @@ module _ (s : List ℕ) (p : Progress State) where
       let E : Outcome (Progress State) → Type 0 = Ends (p .at + 9) in
       unless-ind E (p .state .started) _ (λ r. tt) (λ h. unless-ind E (whole 8 s (p .at + 1)) _ (λ r. tt) (λ i.
       unless-ind E (weightFits (signedAt s (p .at + 1))) _ (λ r. tt) (λ j.
-      ends-folded p 9 ZERO (within (add (p .state .work) (signedAt s (p .at + 1)) (p .state .lines))))))
+      ends-item p 9 ZERO (weighted (p .state .work) (signedAt s (p .at + 1))))))
 
   ends-clause : Ends (p .at + 17) (onClause s p)
   ends-clause =
@@ -93,22 +93,29 @@ module _ (s : List ℕ) (p : Progress State) where
       unless-ind E (p .state .started) _ (λ r. tt) (λ h. unless-ind E (whole 16 s (p .at + 1)) _ (λ r. tt) (λ i.
       unless-ind E (ltb x (2 ^ (p .state .variables)) && ltb y (2 ^ (p .state .variables))) _ (λ r. tt) (λ j.
       unless-ind E (weightFits (signedAt s (p .at + 9))) _ (λ r. tt) (λ k. unless-ind E (leb (length (clauseOf x y)) 64) _ (λ r. tt) (λ m.
-      ends-folded p 17 (p .state .work) (within (add (clauseOf x y) (signedAt s (p .at + 9)) (p .state .lines))))))))
+      ends-item p 17 (p .state .work) (weighted (clauseOf x y) (signedAt s (p .at + 9))))))))
+
+  ends-hard : Ends (p .at + 1) (onHard p)
+  ends-hard = unless-ind (Ends (p .at + 1)) (p .state .started) _ (λ r. tt) (λ h. ends-item p 1 ZERO (hard (p .state .work)))
 
 record-prefix : (s : List ℕ) (p q : Progress State) (K : ℕ) → K ≤ length s → q .at ≤ K → onRecord s p ≡ accepted q → onRecord (take K s) p ≡ accepted q
 unfolding onRecord
 record-prefix s p q K l h e =
     let d : p .at < K = omega (arith, record-inside s p q e .0) in
-    rw (getD-take K s (p .at) 0 d) (go (eqb (getD s (p .at) 0) letterV) (eqb (getD s (p .at) 0) letterM) (eqb (getD s (p .at) 0) letterW) (eqb (getD s (p .at) 0) letterC) e)
+    let kind : ℕ = getD s (p .at) 0 in
+    rw (getD-take K s (p .at) 0 d) (go (eqb kind letterV) (eqb kind letterM) (eqb kind letterW) (eqb kind letterC) (eqb kind letterH) e)
   where
-    go : (a b c d : Bool)
-        → cond a (onVariables s p) (cond b (onTerm s p) (cond c (onWeight s p) (cond d (onClause s p) (refused (numbered 4))))) ≡ accepted q
-        → cond a (onVariables (take K s) p) (cond b (onTerm (take K s) p) (cond c (onWeight (take K s) p) (cond d (onClause (take K s) p) (refused (numbered 4))))) ≡ accepted q
-    go true b c d f = same-outcome (p .at + 2) K (onVariables s p) (onVariables (take K s) p) q (ends-variables s p) (variables-take s p K l) h f
-    go false true c d f = same-outcome (p .at + 5) K (onTerm s p) (onTerm (take K s) p) q (ends-term s p) (term-take s p K l) h f
-    go false false true d f = same-outcome (p .at + 9) K (onWeight s p) (onWeight (take K s) p) q (ends-weight s p) (weight-take s p K l) h f
-    go false false false true f = same-outcome (p .at + 17) K (onClause s p) (onClause (take K s) p) q (ends-clause s p) (clause-take s p K l) h f
-    go false false false false f = f
+    -- by its kind
+    kinds : (a b c d g : Bool) → List ℕ → Outcome (Progress State)
+    kinds a b c d g s = cond a (onVariables s p) (cond b (onTerm s p) (cond c (onWeight s p) (cond d (onClause s p) (cond g (onHard p) (refused (numbered 4))))))
+
+    go : (a b c d g : Bool) → kinds a b c d g s ≡ accepted q → kinds a b c d g (take K s) ≡ accepted q
+    go true b c d g f = same-outcome (p .at + 2) K (onVariables s p) (onVariables (take K s) p) q (ends-variables s p) (variables-take s p K l) h f
+    go false true c d g f = same-outcome (p .at + 5) K (onTerm s p) (onTerm (take K s) p) q (ends-term s p) (term-take s p K l) h f
+    go false false true d g f = same-outcome (p .at + 9) K (onWeight s p) (onWeight (take K s) p) q (ends-weight s p) (weight-take s p K l) h f
+    go false false false true g f = same-outcome (p .at + 17) K (onClause s p) (onClause (take K s) p) q (ends-clause s p) (clause-take s p K l) h f
+    go false false false false true f = f
+    go false false false false false f = f
 
 pub filing-local : Local filing
 filing-local = record { inside = record-inside; prefix = record-prefix }
@@ -129,9 +136,13 @@ module _ (s : List ℕ) (K : ℕ) (x : Refusal) (e : fileProblem s .told ≡ ref
   refused-first = refused-record filing filing-local (length s) s (begun empty) x (omega arith) (stopped .1)
 
   -- it makes what the bytes of the accepted records alone make
-  pub refused-prefix : (let a = fileProblem (acceptedBytes filing s empty) in (fileProblem s .variables ≡ a .variables) × (fileProblem s .lines ≡ a .lines))
+  pub refused-prefix : (let a = fileProblem (acceptedBytes filing s empty) in
+      (fileProblem s .variables ≡ a .variables) × (fileProblem s .lines ≡ a .lines) × (fileProblem s .hard ≡ a .hard))
   unfolding fileProblem
   refused-prefix =
       let r : readAll filing (acceptedBytes filing s empty) empty .reached ≡ reading .reached =
-      ap (λ (w : Reached (Progress State)). w .reached) (accepted-bytes filing filing-local s empty) in
-      (ap (λ (p : Progress State). p .state .variables) (sym r), ap (λ (p : Progress State). p .state .lines) (sym r))
+      ap (λ (w : Reached (Progress State)). w .reached) (accepted-bytes filing filing-local s empty) in (
+        ap (λ (p : Progress State). p .state .variables) (sym r),
+        ap (λ (p : Progress State). p .state .holding .lines) (sym r),
+        ap (λ (p : Progress State). p .state .holding .hard) (sym r),
+      )

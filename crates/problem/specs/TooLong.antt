@@ -19,17 +19,18 @@ use Rattle.refusal.specs.Outcome.{refusedAt}
 use Rattle.term.specs.Term.{degreeOf}
 use Rattle.polynomial.specs.Polynomial.{ZERO, clauseOf}
 use Rattle.polynomial.specs.ClauseLaws.{clause-both-ways, clause-length}
-use Rattle.configuration.specs.Configuration.{Line, add}
+use Rattle.configuration.specs.Configuration.{add}
 use Rattle.configuration.specs.Limits.{within}
 use Rattle.configuration.specs.LimitsLaws.{tells-short, tells-within}
 use Rattle.configuration.specs.LineLaws.{polynomial-short, configuration-parts}
-use Rattle.record.specs.Letters.{letterV, letterM, letterW, letterC}
+use Rattle.record.specs.Letters.{letterV, letterM, letterW, letterC, letterH}
 use Rattle.record.specs.Record.{whole, numberAt, signedAt}
 use Rattle.walk.specs.Walk.{Progress, begun, past, readAll}
 use Rattle.walk.specs.Work.{termAdded}
 use Rattle.walk.specs.WalkLaws.{next-tells}
 use Rattle.walk.specs.WorkLaws.{term-tells}
-use Rattle.problem.specs.Problem.{State, having, weightFits, folded, onTerm, onWeight, onClause, onRecord, filing, empty, fileProblem}
+use Rattle.problem.specs.Item.{Item, weighted, hard, takeIn}
+use Rattle.problem.specs.Problem.{State, having, weightFits, withItem, onTerm, onWeight, onClause, onRecord, filing, empty, fileProblem}
 use Rattle.problem.specs.ProblemLaws.{Sound, sound-empty, sound-filing}
 use Rattle.problem.specs.RefusedLaws.{refused-first}
 use Rattle.run.specs.BooleanLaws as B
@@ -73,24 +74,28 @@ module _ (s : List ℕ) (p : Progress State) (o : Sound (p .state)) where
   terms : T (eqb kind letterM) → TellsTerms Q (onTerm s p)
   terms h =
       tells-unless Q (x .started) 4 _ tt (λ i.
-      tells-mapped Q (λ f. past p 5 (having f (x .lines) x)) (termAdded (x .variables) s (p .at + 1) (x .work))
+      tells-mapped Q (λ f. past p 5 (having f (x .holding) x)) (termAdded (x .variables) s (p .at + 1) (x .work))
       (tells-more (λ k. k ≡ 65) Q (termAdded (x .variables) s (p .at + 1) (x .work)) (λ k e. inl (eqb→eq kind letterM h, e))
       (term-tells (x .variables) s (p .at + 1) (x .work) (polynomial-short (x .variables) (x .work) (o .polynomial)))))
 
   -- the limits tell no number of terms
-  lines : (size : ℕ) (work : List ℕ) (L : List Line) → TellsTerms Q (folded p size work (within L))
-  lines size work L = tells-mapped Q (λ M. past p size (having work M x)) (within L) (tells-within Q L)
+  items : (size : ℕ) (work : List ℕ) (i : Item) → TellsTerms Q (withItem p size work i)
+  items size work i = tells-mapped Q (λ y. past p size (having work y x)) (takeIn i (x .holding)) (go i)
+    where
+      go : (i : Item) → TellsTerms Q (takeIn i (x .holding))
+      go (weighted f w) = tells-mapped Q (λ L. record { lines = L; hard = x .holding .hard }) (within (add f w (x .holding .lines))) (tells-within Q (add f w (x .holding .lines)))
+      go (hard f) = tells-unless Q (ltb (length (x .holding .hard)) 16) 18 _ tt (λ h. tt)
 
   weights : TellsTerms Q (onWeight s p)
   weights =
       tells-unless Q (x .started) 4 _ tt (λ h. tells-unless Q (whole 8 s (p .at + 1)) 3 _ tt (λ h. tells-unless Q (weightFits (signedAt s (p .at + 1))) 8 _ tt (λ h.
-      lines 9 ZERO (add (x .work) (signedAt s (p .at + 1)) (x .lines)))))
+      items 9 ZERO (weighted (x .work) (signedAt s (p .at + 1))))))
 
   -- a mask of the variables has 32 bits
   known : (a : ℕ) → T (ltb a (2 ^ (x .variables))) → a < 2 ^ 32
   known a h =
       let l : a < 2 ^ (x .variables) = ltb→lt a (2 ^ (x .variables)) h in
-      omega (arith, l, pow-mono {i = x .variables} {j = 32} (configuration-parts (x .variables) (x .lines) (o .configuration) .variables))
+      omega (arith, l, pow-mono {i = x .variables} {j = 32} (configuration-parts (x .variables) (x .holding .lines) (o .configuration) .variables))
 
   clauses : T (eqb kind letterC) → TellsTerms Q (onClause s p)
   clauses h =
@@ -100,7 +105,7 @@ module _ (s : List ℕ) (p : Progress State) (o : Sound (p .state)) where
       tells-unless Q (x .started) 4 _ tt (λ i. tells-unless Q (whole 16 s (p .at + 1)) 3 _ tt (λ i. tells-unless Q (ltb a m && ltb b m) 6 _ tt (λ j.
       tells-unless Q (weightFits (signedAt s (p .at + 9))) 8 _ tt (λ i. tells-short Q (clauseOf a b) _
       (λ l. inr (eqb→eq kind letterC h, clause-over a b (known a (B.left (ltb a m) (ltb b m) j)) (known b (B.right (ltb a m) (ltb b m) j)) l))
-      (λ l. lines 17 (x .work) (add (clauseOf a b) (signedAt s (p .at + 9)) (x .lines)))))))
+      (λ l. items 17 (x .work) (weighted (clauseOf a b) (signedAt s (p .at + 9))))))))
 
   pub record-tells : TellsTerms Q (onRecord s p)
   unfolding onRecord
@@ -109,7 +114,9 @@ module _ (s : List ℕ) (p : Progress State) (o : Sound (p .state)) where
       (λ h. tells-unless Q (not (x .started)) 4 _ tt (λ i. tells-unless Q (whole 1 s (p .at + 1)) 3 _ tt (λ i. tells-unless Q (leb (numberAt 1 s (p .at + 1)) 32) 5 _ tt (λ i. tt)))) (λ h.
       cond-ind (eqb kind letterM) (TellsTerms Q) terms (λ h.
       cond-ind (eqb kind letterW) (TellsTerms Q) (λ h. weights) (λ h.
-      cond-ind (eqb kind letterC) (TellsTerms Q) clauses (λ h e. let i : ⊥ = omega arith in absurd i))))
+      cond-ind (eqb kind letterC) (TellsTerms Q) clauses (λ h.
+      cond-ind (eqb kind letterH) (TellsTerms Q) (λ h. tells-unless Q (x .started) 4 _ tt (λ i. items 1 ZERO (hard (x .work))))
+      (λ h e. let i : ⊥ = omega arith in absurd i)))))
 
 -- of a whole filing: the record after those that are accepted
 pub filing-tells : (s : List ℕ) (K : ℕ) (x : Refusal) → fileProblem s .told ≡ refusedAt K x → x .number ≡ 7 → LongEntry s ((readAll filing s empty) .reached) (x .detail)

@@ -3,6 +3,8 @@ use crate::Progress;
 use crate::Recorded;
 use crate::read::read_clause;
 use crate::read::read_weight;
+use hard::append;
+use hard::number_of;
 use polynomial::Polynomial;
 use polynomial::front;
 use record::Byte;
@@ -17,10 +19,12 @@ ghost use Prim.Native.Nat.{ℕ, _+_, _≤_, _<_};
 ghost use lib.Dec.{T};
 ghost use lib.ListN.{length, take};
 ghost use Rattle.polynomial.specs.Polynomial.{Ordered};
-ghost use Rattle.configuration.specs.Configuration.{weightsFit};
+ghost use Rattle.configuration.specs.Configuration.{isPolynomial, weightsFit};
+ghost use Rattle.hard.specs.Hard.{isHardList};
+ghost use Rattle.hard.specs.Working.{hardIn, runOf};
 ghost use Rattle.table.specs.Rows.{Table, tableAt, tableBefore, tableAfter, linesOf, Fits};
-ghost use Rattle.problem.specs.Problem.{onVariables, onTerm, onWeight, onClause};
-ghost use Rattle.problem.specs.Held.{passed, unlessFound, Held, Does};
+ghost use Rattle.problem.specs.Problem.{onVariables, onTerm, onWeight, onClause, onHard};
+ghost use Rattle.problem.specs.Held.{passed, unlessFound, Does};
 
 // A refused record.
 pub fn refused(p: Progress, reason: Reason) -> Recorded
@@ -68,10 +72,10 @@ fn unless_found(
     }
 }
 
-// V: the number of variables. There are no lines yet.
+// V: the number of variables.
 pub fn on_variables(bytes: &[u8], p: Progress) -> Recorded
     requires { ⌜ (p .at < length (now bytes)) × (p .records ≤ p .at) ⌝ }
-    ensures { λ r. ⌜ ((us : List ℕ) (t : Table) → Does (onVariables (now (bytes .entry))) p us t r us t) ⌝ }
+    ensures { λ r. ⌜ ((us hs : List ℕ) (t : Table) → Does (onVariables (now (bytes .entry))) p us hs t r us hs t) ⌝ }
 {
     if p.started {
         return refused(p, Reason::Misplaced);
@@ -82,13 +86,13 @@ pub fn on_variables(bytes: &[u8], p: Progress) -> Recorded
     if 32 < variables {
         return refused(p, Reason::TooManyVariables);
     }
-    accepted(p, 2, variables as u32, 0, Polynomial::ZERO.count)
+    accepted(p, 2, variables as u32, p.lines, p.work)
 }
 
 // M: a term is added to the work polynomial.
 pub fn on_term(bytes: &[u8], p: Progress, work: &mut [u32]) -> Recorded
     requires { ⌜ (p .at < length (now bytes)) × (p .records ≤ p .at) × (length (now work) ≡ 64) × (p .work ≤ 64) × Ordered (take (p .work) (now work)) ⌝ }
-    ensures { λ r. ⌜ ((t : Table) → Does (onTerm (now (bytes .entry))) p (now (work .entry)) t r (now (work .exit)) t) ⌝ }
+    ensures { λ r. ⌜ ((hs : List ℕ) (t : Table) → Does (onTerm (now (bytes .entry))) p (now (work .entry)) hs t r (now (work .exit)) hs t) ⌝ }
 {
     if !p.started {
         return refused(p, Reason::Misplaced);
@@ -108,9 +112,10 @@ pub fn on_weight(
     weights: &mut [i64],
     counts: &mut [u32],
 ) -> Recorded
-    requires { let t = tableAt (p .lines) order terms weights counts in ⌜ (p .at < length (now bytes)) × Held p (now work) t × T (weightsFit (linesOf t)) ⌝ }
+    requires { let t = tableAt (p .lines) order terms weights counts in
+        ⌜ (p .at < length (now bytes)) × (p .records ≤ p .at) × (length (now work) ≡ 64) × (p .work ≤ 64) × Fits 128 t × T (weightsFit (linesOf t)) ⌝ }
     ensures { λ r. let t = tableBefore (p .lines) order terms weights counts in let u = tableAfter (r .progress .lines) order terms weights counts in
-        ⌜ Does (onWeight (now (bytes .entry))) p (now (work .entry)) t r (now (work .entry)) u ⌝ }
+        ⌜ ((hs : List ℕ) → Does (onWeight (now (bytes .entry))) p (now (work .entry)) hs t r (now (work .entry)) hs u) ⌝ }
 {
     let read = read_weight(bytes, p);
     let objection = read.objection;
@@ -136,7 +141,7 @@ pub fn on_clause(
     requires { let t = tableAt (p .lines) order terms weights counts in
         ⌜ (p .at < length (now bytes)) × (p .records ≤ p .at) × Fits 128 t × T (weightsFit (linesOf t)) ⌝ }
     ensures { λ r. let t = tableBefore (p .lines) order terms weights counts in let u = tableAfter (r .progress .lines) order terms weights counts in
-        ⌜ ((us : List ℕ) → Does (onClause (now (bytes .entry))) p us t r us u) ⌝ }
+        ⌜ ((us hs : List ℕ) → Does (onClause (now (bytes .entry))) p us hs t r us hs u) ⌝ }
 {
     let read = read_clause(bytes, p);
     let objection = read.objection;
@@ -148,4 +153,22 @@ pub fn on_clause(
     let added = add(p.lines, order, terms, weights, counts, f, read.weight);
     let objection = added.objection;
     unless_found(p, 17, added.lines, p.work, objection)
+}
+
+// H: the work polynomial joins the hard list, and is cleared.
+pub fn on_hard(p: Progress, work: &[u32], hard: &mut [u32]) -> Recorded
+    requires { let f = take (p .work) (now work) in let H = hardIn (now hard) in
+        ⌜ (p .at < 18446744073709551615) × (p .records ≤ p .at) × (length (now work) ≡ 64) × (p .work ≤ 64)
+        × (now hard ≡ runOf H) × T (isPolynomial (p .variables) f) × T (isHardList (p .variables) H) ⌝ }
+    ensures { λ r. ⌜ ((t : Table) → Does onHard p (now (work .entry)) (now (hard .entry)) t r (now (work .entry)) (now (hard .exit)) t) ⌝ }
+{
+    if !p.started {
+        return refused(p, Reason::Misplaced);
+    }
+    if number_of(hard) == 16 {
+        return refused(p, Reason::TooManyHard);
+    }
+    let count = p.work;
+    append(hard, &work[..count]);
+    accepted(p, 1, p.variables, p.lines, Polynomial::ZERO.count)
 }

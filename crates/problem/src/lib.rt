@@ -3,6 +3,7 @@ mod entry;
 mod read;
 
 use entry::on_clause;
+use entry::on_hard;
 use entry::on_term;
 use entry::on_variables;
 use entry::on_weight;
@@ -12,13 +13,15 @@ use refusal::Objection;
 use refusal::Reason;
 ghost use mathlib.Core.Path.{_≡_};
 ghost use mathlib.Core.Bool.{cond, _&&_};
+ghost use mathlib.Core.List.{[]};
 ghost use Prim.Native.Nat.{_<_};
 ghost use lib.Dec.{eqb};
 ghost use lib.ListN.{length};
 ghost use Rattle.refusal.specs.Refusal.{numbered};
 ghost use Rattle.refusal.specs.Outcome.{nothing, refusedFor};
 ghost use Rattle.polynomial.specs.Polynomial.{ZERO};
-ghost use Rattle.table.specs.Rows.{tableAt, tableBefore, tableAfter, Fits, madeIn};
+ghost use Rattle.hard.specs.Working.{runOf};
+ghost use Rattle.table.specs.Rows.{tableAt, tableBefore, tableAfter, linesOf, Fits};
 ghost use Rattle.walk.specs.Walk.{verdict};
 ghost use Rattle.problem.specs.Problem.{onRecord, fileProblem, toldOfFiling};
 ghost use Rattle.problem.specs.Held.{progressIn, Held, Usable, Does};
@@ -29,7 +32,8 @@ pub enum FilingAnswer {
     Refused(u64, Reason),
 }
 
-// What a filing makes: the number of variables, how many lines, and the answer. The lines stand in a table.
+// What a filing makes: the number of variables, how many lines, and the answer. The lines stand in a table, and the hard list
+// in its working form.
 pub struct Filing {
     pub variables: u32,
     pub lines: usize,
@@ -58,15 +62,16 @@ fn on_record(
     bytes: &[u8],
     p: Progress,
     work: &mut [u32],
+    hard: &mut [u32],
     order: &mut [u64],
     terms: &mut [u32],
     weights: &mut [i64],
     counts: &mut [u32],
 ) -> Recorded
     requires { let t = tableAt (p .lines) order terms weights counts in
-        ⌜ (p .at < length (now bytes)) × Held p (now work) t × Usable (progressIn p (now work) t .state) ⌝ }
+        ⌜ (p .at < length (now bytes)) × Held p (now work) (now hard) t × Usable (progressIn p (now work) (now hard) t .state) ⌝ }
     ensures { λ r. let t = tableBefore (p .lines) order terms weights counts in let u = tableAfter (r .progress .lines) order terms weights counts in
-        ⌜ Does (onRecord (now (bytes .entry))) p (now (work .entry)) t r (now (work .exit)) u ⌝ }
+        ⌜ Does (onRecord (now (bytes .entry))) p (now (work .entry)) (now (hard .entry)) t r (now (work .exit)) (now (hard .exit)) u ⌝ }
 {
     let at = p.at;
     let kind = bytes[at];
@@ -81,6 +86,9 @@ fn on_record(
     }
     if kind == b'C' {
         return on_clause(bytes, p, order, terms, weights, counts);
+    }
+    if kind == b'H' {
+        return on_hard(p, work, hard);
     }
     refused(p, Reason::Misplaced)
 }
@@ -100,17 +108,19 @@ fn finish(p: Progress) -> FilingAnswer
 }
 
 // Files the problem that the bytes are: reads the records one after the other, up to the first that is refused, and folds what
-// they bring into a table that holds no line. It is for the crates `checker` and `report`, which make the table.
+// they bring into a table that holds no line, or adds it to a hard list that is empty. It is for the crates `checker` and
+// `report`, which make both.
 pub fn file_problem(
     bytes: &[u8],
+    hard: &mut [u32],
     order: &mut [u64],
     terms: &mut [u32],
     weights: &mut [i64],
     counts: &mut [u32],
 ) -> Filing
-    requires { ⌜ Fits 128 (tableAt 0 order terms weights counts) ⌝ }
-    ensures made { λ r. let t = tableAfter (r .lines) order terms weights counts in
-        ⌜ madeIn (r .variables) t (toldOfFiling (r .answer)) ≡ fileProblem (now (bytes .entry)) ⌝ }
+    requires { ⌜ Fits 128 (tableAt 0 order terms weights counts) × (now hard ≡ runOf []) ⌝ }
+    ensures made { λ r. let m = fileProblem (now (bytes .entry)) in let t = tableAfter (r .lines) order terms weights counts in
+        ⌜ (r .variables ≡ m .variables) × (now (hard .exit) ≡ runOf (m .hard)) × (linesOf t ≡ m .lines) × (toldOfFiling (r .answer) ≡ m .told) ⌝ }
     ensures fits { λ r. ⌜ Fits 128 (tableAfter (r .lines) order terms weights counts) ⌝ }
 {
     let zero = Polynomial::ZERO;
@@ -124,7 +134,7 @@ pub fn file_problem(
         work: zero.count,
     };
     while p.at < bytes.len() {
-        let recorded = on_record(bytes, p, &mut work, order, terms, weights, counts);
+        let recorded = on_record(bytes, p, &mut work, hard, order, terms, weights, counts);
         let progress = recorded.progress;
         p = progress;
         let objection = recorded.objection;

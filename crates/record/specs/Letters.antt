@@ -2,7 +2,7 @@
 use Prim.Native.Nat.{ℕ}
 use Prim.Native.Char.{code}
 
--- ---- in a filing: variables, a term, a weight, a clause
+-- ---- in a filing: variables, a term, a weight, a clause, a hard polynomial
 abbrev pub letterV : ℕ
 letterV = code "V"
 
@@ -15,7 +15,10 @@ letterW = code "W"
 abbrev pub letterC : ℕ
 letterC = code "C"
 
--- ---- in a derivation: the plain and the signed mode, a term (M), the choice of f, the steps SUM and PROD, the claim
+abbrev pub letterH : ℕ
+letterH = code "H"
+
+-- ---- in a derivation: the plain and the signed mode, a term (M), the choice of f, the steps SUM and PROD, a hard step, the claim
 abbrev pub letterN : ℕ
 letterN = code "N"
 
@@ -30,6 +33,9 @@ letterS = code "S"
 
 abbrev pub letterP : ℕ
 letterP = code "P"
+
+abbrev pub letterE : ℕ
+letterE = code "E"
 
 abbrev pub letterB : ℕ
 letterB = code "B"

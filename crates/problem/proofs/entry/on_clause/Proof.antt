@@ -31,12 +31,12 @@ refused-requires : tie.Need-refused-requires
 refused-requires c κs = search needs
 
 returns : tie.Need-returns
-returns c us =
+returns c us hs =
     let s = c .before .before .before .before .before .before .before .before .before in
     let a = s .args in
     let r = c .before .before .before .before .read-clause in
-    refused-does (onClause (now (a .bytes))) (a .p) us (table s) (c .refused .result) _ (c .refused .ensures)
-    (brings-found (onClause (now (a .bytes))) (a .p) 17 (a .p .work) (λ us. termsOf (r .result .polynomial)) (r .result .weight) (r .result .objection) (r .ensures .0) us (table s) _
+    refused-does (onClause (now (a .bytes))) (a .p) us hs (table s) (c .refused .result) _ (c .refused .ensures)
+    (brings-found (onClause (now (a .bytes))) (a .p) 17 (a .p .work) (λ us. termsOf (r .result .polynomial)) (r .result .weight) (r .result .objection) (r .ensures .0) us hs (table s) _
     (c .before .before .objection .given .1))
 
 enum-told : tie.Need-enum-told
@@ -90,7 +90,7 @@ same-length-4 : tie.Need-same-length-4
 same-length-4 c = search needs
 
 returns-2 : tie.Need-returns-2
-returns-2 c us h =
+returns-2 c us hs h =
     let k = c .before .before .before .before .before .before .before .before in
     let g = k .before in
     let s = start g in
@@ -98,7 +98,7 @@ returns-2 c us h =
     let r = g .before .before .before .before .before .before .before .before .before .before .before .before .read-clause in
     let d = k .add in
     let l = d .last .1 in
-    brought (onClause (now (a .bytes))) (a .p) 17 (a .p .work) (λ us. termsOf (r .result .polynomial)) (weight g) (r .result .objection) (r .ensures .0) us (table s) (nothing-found g) _ (same g)
+    brought (onClause (now (a .bytes))) (a .p) 17 (a .p .work) (λ us. termsOf (r .result .polynomial)) (weight g) (r .result .objection) (r .ensures .0) us hs (table s) (nothing-found g) _ (same g)
     (tableIn (l .0) (l .1 .0) (l .1 .1 .0) (l .1 .1 .1 .0)) (d .result .lines) (d .result .objection) (rw (exact g) at (d .ensures .0)) (d .ensures .1) (h .room) (omega arith)
     (c .unless-found .result) (c .unless-found .ensures) h
 

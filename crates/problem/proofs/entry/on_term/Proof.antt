@@ -16,10 +16,10 @@ refused-requires : tie.Need-refused-requires
 refused-requires c κs = search needs
 
 returns : tie.Need-returns
-returns c t =
+returns c hs t =
     let a = c .before .before .before .before .before .args in
-    refused-does (onTerm (now (a .bytes))) (a .p) (now (a .work)) t (c .refused .result) R.Misplaced (c .refused .ensures)
-    (term-early (now (a .bytes)) (progressIn (a .p) (now (a .work)) t) (not-true _ (c .before .if1 .taken)))
+    refused-does (onTerm (now (a .bytes))) (a .p) (now (a .work)) hs t (c .refused .result) R.Misplaced (c .refused .ensures)
+    (term-early (now (a .bytes)) (progressIn (a .p) (now (a .work)) hs t) (not-true _ (c .before .if1 .taken)))
 
 add-add-term : tie.Need-add-add-term
 add-add-term c = search needs

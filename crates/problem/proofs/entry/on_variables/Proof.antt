@@ -24,10 +24,10 @@ refused-requires : tie.Need-refused-requires
 refused-requires c κs = search needs
 
 returns : tie.Need-returns
-returns c us t =
+returns c us hs t =
     let a = c .before .before .before .args in
-    refused-does (onVariables (now (a .bytes))) (a .p) us t (c .refused .result) R.Misplaced (c .refused .ensures)
-    (second (now (a .bytes)) (progressIn (a .p) us t) (c .before .if1 .taken))
+    refused-does (onVariables (now (a .bytes))) (a .p) us hs t (c .refused .result) R.Misplaced (c .refused .ensures)
+    (second (now (a .bytes)) (progressIn (a .p) us hs t) (c .before .if1 .taken))
 
 add-read-byte : tie.Need-add-read-byte
 add-read-byte c = search needs
@@ -45,20 +45,20 @@ refused-requires-2 : tie.Need-refused-requires-2
 refused-requires-2 c κs = search needs
 
 returns-2 : tie.Need-returns-2
-returns-2 c us t =
+returns-2 c us hs t =
     let a = c .before .before .before .before .before .before .before .args in
-    refused-does (onVariables (now (a .bytes))) (a .p) us t (c .refused2 .result) R.CutShort (c .refused2 .ensures)
-    (variables-cut (now (a .bytes)) (progressIn (a .p) us t) (c .before .before .before .before .before .if1 .left) (sym (c .before .before .before .read-byte .ensures) ∙ c .before .enum-told .given .1))
+    refused-does (onVariables (now (a .bytes))) (a .p) us hs t (c .refused2 .result) R.CutShort (c .refused2 .ensures)
+    (variables-cut (now (a .bytes)) (progressIn (a .p) us hs t) (c .before .before .before .before .before .if1 .left) (sym (c .before .before .before .read-byte .ensures) ∙ c .before .enum-told .given .1))
 
 refused-requires-3 : tie.Need-refused-requires-3
 refused-requires-3 c κs = search needs
 
 returns-3 : tie.Need-returns-3
-returns-3 c us t =
+returns-3 c us hs t =
     let k = c .before .before in
     let a = start k .args in
-    refused-does (onVariables (now (a .bytes))) (a .p) us t (c .refused3 .result) R.TooManyVariables (c .refused3 .ensures)
-    (too-many (now (a .bytes)) (progressIn (a .p) us t) (c .before .before .before .before .before .before .before .if1 .left) _ (read k) (c .before .if2 .taken))
+    refused-does (onVariables (now (a .bytes))) (a .p) us hs t (c .refused3 .result) R.TooManyVariables (c .refused3 .ensures)
+    (too-many (now (a .bytes)) (progressIn (a .p) us hs t) (c .before .before .before .before .before .before .before .if1 .left) _ (read k) (c .before .if2 .taken))
 
 cast-accepted : tie.Need-cast-accepted
 cast-accepted c = search needs
@@ -67,11 +67,11 @@ accepted-requires : tie.Need-accepted-requires
 accepted-requires c κs = search needs
 
 returns-4 : tie.Need-returns-4
-returns-4 c us t =
+returns-4 c us hs t =
     let k = c .before .before in
     let a = start k .args in
-    set-does (onVariables (now (a .bytes))) (a .p) us t (c .accepted .result) _ (c .accepted .ensures)
-    (variables-set (now (a .bytes)) (progressIn (a .p) us t) (c .before .before .before .before .before .before .before .if1 .left) _ (read k) (c .before .if2 .left))
+    set-does (onVariables (now (a .bytes))) (a .p) us hs t (c .accepted .result) _ (c .accepted .ensures)
+    (variables-set (now (a .bytes)) (progressIn (a .p) us hs t) (c .before .before .before .before .before .before .before .if1 .left) _ (read k) (c .before .if2 .left))
 
 pub on-variables-spec : {M : Type 1} → statement M
 on-variables-spec =

@@ -31,12 +31,12 @@ refused-requires : tie.Need-refused-requires
 refused-requires c κs = search needs
 
 returns : tie.Need-returns
-returns c =
+returns c hs =
     let s = c .before .before .before .before .before .before .before .before .before .before in
     let a = s .args in
     let r = c .before .before .before .before .read-weight in
-    refused-does (onWeight (now (a .bytes))) (a .p) (now (a .work)) (table s) (c .refused .result) _ (c .refused .ensures)
-    (brings-found (onWeight (now (a .bytes))) (a .p) 9 0 (take (a .p .work)) (r .result .weight) (r .result .objection) (r .ensures .0) (now (a .work)) (table s) _
+    refused-does (onWeight (now (a .bytes))) (a .p) (now (a .work)) hs (table s) (c .refused .result) _ (c .refused .ensures)
+    (brings-found (onWeight (now (a .bytes))) (a .p) 9 0 (take (a .p .work)) (r .result .weight) (r .result .objection) (r .ensures .0) (now (a .work)) hs (table s) _
     (c .before .before .objection .given .1))
 
 enum-told : tie.Need-enum-told
@@ -45,7 +45,7 @@ enum-told c = search needs
 slice-aggregate-f : tie.Need-slice-aggregate-f
 slice-aggregate-f c =
     let s = c .before .before .before .before .before .before .before .before .before in
-    let h : s .args .p .work ≤ length (s .args .work .now) = rw (s .pre .1 .area) (s .pre .1 .room) in
+    let h : s .args .p .work ≤ length (s .args .work .now) = rw (s .pre .2) (s .pre .3) in
     sym (length-take-le (s .args .p .work) (s .args .work .now) h)
 
 -- where the polynomial is folded in
@@ -66,9 +66,9 @@ add-requires c κs =
     let s = start c in
     let a = s .args in
     let h = c .before .before .before .before .before .before .before .before .read-weight .ensures .1 (nothing-found c) in
-    let l : a .p .work ≤ length (a .work .now) = rw (s .pre .1 .area) (s .pre .1 .room) in
-    let m : length (take (a .p .work) (a .work .now)) ≤ 64 = rw (length-take-le (a .p .work) (a .work .now) l) (s .pre .1 .room) in
-    (s .pre .1 .fits, s .pre .2, m, rw (exact c) (small-weight (weight c) h), rw (exact c) (not-zero (weight c) h))
+    let l : a .p .work ≤ length (a .work .now) = rw (s .pre .2) (s .pre .3) in
+    let m : length (take (a .p .work) (a .work .now)) ≤ 64 = rw (length-take-le (a .p .work) (a .work .now) l) (s .pre .3) in
+    (s .pre .4, s .pre .5, m, rw (exact c) (small-weight (weight c) h), rw (exact c) (not-zero (weight c) h))
 
 unless-found-requires : tie.Need-unless-found-requires
 unless-found-requires c κs = search needs
@@ -86,7 +86,7 @@ same-length-4 : tie.Need-same-length-4
 same-length-4 c = search needs
 
 returns-2 : tie.Need-returns-2
-returns-2 c =
+returns-2 c hs =
     let k = c .before .before .before .before .before .before .before .before in
     let g = k .before in
     let s = start g in
@@ -94,7 +94,7 @@ returns-2 c =
     let r = g .before .before .before .before .before .before .before .before .read-weight in
     let d = k .add in
     let l = d .last .1 in
-    brought (onWeight (now (a .bytes))) (a .p) 9 0 (take (a .p .work)) (weight g) (r .result .objection) (r .ensures .0) (now (a .work)) (table s) (nothing-found g) _ refl
+    brought (onWeight (now (a .bytes))) (a .p) 9 0 (take (a .p .work)) (weight g) (r .result .objection) (r .ensures .0) (now (a .work)) hs (table s) (nothing-found g) _ refl
     (tableIn (l .0) (l .1 .0) (l .1 .1 .0) (l .1 .1 .1 .0)) (d .result .lines) (d .result .objection) (rw (exact g) at (d .ensures .0)) (d .ensures .1) (omega arith) (omega arith)
     (c .unless-found .result) (c .unless-found .ensures)
 

@@ -33,7 +33,7 @@ use Rattle.problem.proofs.read.read_clause.Tie as tie
 
 -- a refusal, for the reason that the definition has
 refuse : (s : tie.Start) (reason : Reason) (r : Weighted) → r .objection ≡ Found reason
-    → ((us : List ℕ) (t : Table) → refused (refusalOf reason) ≡ onClause (now (s .args .bytes)) (progressIn (s .args .p) us t))
+    → ((us hs : List ℕ) (t : Table) → refused (refusalOf reason) ≡ onClause (now (s .args .bytes)) (progressIn (s .args .p) us hs t))
     → Brings (onClause (now (s .args .bytes))) (s .args .p) 17 (s .args .p .work) (λ us. termsOf (r .polynomial)) (r .weight) (r .objection)
     × (r .objection ≡ Nothing → T (weightFits (r .weight)))
 refuse s reason r = found (onClause (now (s .args .bytes))) (s .args .p) 17 (s .args .p .work) (λ us. termsOf (r .polynomial)) (r .weight) (r .objection) reason
@@ -76,7 +76,7 @@ returns : tie.Need-returns
 returns c =
     let s = c .before .before .before .before in
     refuse s R.Misplaced (c .no-polynomial .result) (ap (λ (w : Weighted). w .objection) (c .no-polynomial .ensures))
-    (λ us t. clause-early (now (s .args .bytes)) (progressIn (s .args .p) us t) (not-true _ (c .before .if1 .taken)))
+    (λ us hs t. clause-early (now (s .args .bytes)) (progressIn (s .args .p) us hs t) (not-true _ (c .before .if1 .taken)))
 
 add-read-clause : tie.Need-add-read-clause
 add-read-clause c = search needs
@@ -97,7 +97,7 @@ returns-2 : tie.Need-returns-2
 returns-2 c =
     let s = c .before .before .before .before .before .before .before .before in
     refuse s R.CutShort (c .no-polynomial2 .result) (ap (λ (w : Weighted). w .objection) (c .no-polynomial2 .ensures))
-    (λ us t. clause-short (now (s .args .bytes)) (progressIn (s .args .p) us t) (not-false _ (c .before .before .before .before .before .if1 .left))
+    (λ us hs t. clause-short (now (s .args .bytes)) (progressIn (s .args .p) us hs t) (not-false _ (c .before .before .before .before .before .if1 .left))
     (sym (c .before .before .before .read-clause .ensures) ∙ c .before .enum-told .given .1))
 
 is-term-requires : tie.Need-is-term-requires
@@ -110,7 +110,7 @@ returns-3 : tie.Need-returns-3
 returns-3 c =
     let s = c .before .before .before .before .before .before .before .before .before .before .before in
     refuse s R.UnknownVariable (c .no-polynomial3 .result) (ap (λ (w : Weighted). w .objection) (c .no-polynomial3 .ensures))
-    (λ us t. plain-unknown (now (s .args .bytes)) (progressIn (s .args .p) us t) (not-false _ (c .before .before .before .before .before .before .before .before .if1 .left)) _ _ _
+    (λ us hs t. plain-unknown (now (s .args .bytes)) (progressIn (s .args .p) us hs t) (not-false _ (c .before .before .before .before .before .before .before .before .if1 .left)) _ _ _
     (sym (c .before .before .before .before .before .before .read-clause .ensures) ∙ c .before .before .before .before .plain .given .1)
     (sym (c .before .before .is-term .ensures) ∙ not-true _ (c .before .if2 .taken)))
 
@@ -124,7 +124,7 @@ returns-4 : tie.Need-returns-4
 returns-4 c =
     let s = c .before .before .before .before .before .before .before .before .before .before .before .before .before in
     refuse s R.UnknownVariable (c .no-polynomial4 .result) (ap (λ (w : Weighted). w .objection) (c .no-polynomial4 .ensures))
-    (λ us t. negated-unknown (now (s .args .bytes)) (progressIn (s .args .p) us t) (not-false _ (c .before .before .before .before .before .before .before .before .before .before .if1 .left)) _ _ _
+    (λ us hs t. negated-unknown (now (s .args .bytes)) (progressIn (s .args .p) us hs t) (not-false _ (c .before .before .before .before .before .before .before .before .before .before .if1 .left)) _ _ _
     (sym (c .before .before .before .before .before .before .before .before .read-clause .ensures) ∙ c .before .before .before .before .before .before .plain .given .1)
     (sym (c .before .before .before .before .is-term .ensures) ∙ not-false _ (c .before .before .before .if2 .left))
     (sym (c .before .before .is-term2 .ensures) ∙ not-true _ (c .before .if3 .taken)))
@@ -140,7 +140,7 @@ returns-5 c =
     let k = c .before .before in
     let s = start k in
     refuse s R.OutOfRange (c .no-polynomial5 .result) (ap (λ (w : Weighted). w .objection) (c .no-polynomial5 .ensures))
-    (λ us t. clause-out (now (s .args .bytes)) (progressIn (s .args .p) us t) (begun k) (plain k) (negated k) (weight k) (read k) (plain-known k) (negated-known k)
+    (λ us hs t. clause-out (now (s .args .bytes)) (progressIn (s .args .p) us hs t) (begun k) (plain k) (negated k) (weight k) (read k) (plain-known k) (negated-known k)
     (sym (fits k) ∙ not-true _ (c .before .if4 .taken)))
 
 clause-requires : tie.Need-clause-requires
@@ -156,7 +156,7 @@ returns-6 c =
     let r = c .before .before .before .clause in
     let n : r .result .length ≡ length (clauseOf (plain k) (negated k)) = ap (λ (o : Measured). o .length) (r .ensures) in
     refuse s (R.TooManyTerms (r .result .length)) (c .no-polynomial6 .result) (ap (λ (w : Weighted). w .objection) (c .no-polynomial6 .ensures))
-    (λ us t. clause-long (now (s .args .bytes)) (progressIn (s .args .p) us t) (begun k) (plain k) (negated k) (weight k) (read k) (plain-known k) (negated-known k)
+    (λ us hs t. clause-long (now (s .args .bytes)) (progressIn (s .args .p) us hs t) (begun k) (plain k) (negated k) (weight k) (read k) (plain-known k) (negated-known k)
     (sym (fits k) ∙ not-false _ (c .before .before .before .before .if4 .left)) (r .result .length) n (c .before .if5 .taken))
 
 returns-7 : tie.Need-returns-7
@@ -168,7 +168,7 @@ returns-7 c =
     let m : (termsOf (r .result .polynomial) ≡ clauseOf (plain k) (negated k)) × (length (clauseOf (plain k) (negated k)) ≤ 64) =
     measured-terms (clauseOf (plain k) (negated k)) (r .result) (r .ensures) (c .before .if5 .left) in
     rw (exact k, m .0) (
-      λ us t. sym (clause-in (now (s .args .bytes)) (progressIn (s .args .p) us t) (begun k) (plain k) (negated k) (weight k) (read k) (plain-known k) (negated-known k) h (m .1)),
+      λ us hs t. sym (clause-in (now (s .args .bytes)) (progressIn (s .args .p) us hs t) (begun k) (plain k) (negated k) (weight k) (read k) (plain-known k) (negated-known k) h (m .1)),
       λ n. of-true h,
     )
 

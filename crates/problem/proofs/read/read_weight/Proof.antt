@@ -29,7 +29,7 @@ returns : tie.Need-returns
 returns c =
     let a = c .before .before .before .before .args in
     found (onWeight (now (a .bytes))) (a .p) 9 0 (take (a .p .work)) (c .no-weight .result .weight) (c .no-weight .result .objection) R.Misplaced (ap (λ (w : Weight). w .objection) (c .no-weight .ensures))
-    (λ us t. weight-early (now (a .bytes)) (progressIn (a .p) us t) (not-true _ (c .before .if1 .taken)))
+    (λ us hs t. weight-early (now (a .bytes)) (progressIn (a .p) us hs t) (not-true _ (c .before .if1 .taken)))
 
 add-read-amount : tie.Need-add-read-amount
 add-read-amount c = search needs
@@ -50,7 +50,7 @@ returns-2 : tie.Need-returns-2
 returns-2 c =
     let a = c .before .before .before .before .before .before .before .before .args in
     found (onWeight (now (a .bytes))) (a .p) 9 0 (take (a .p .work)) (c .no-weight2 .result .weight) (c .no-weight2 .result .objection) R.CutShort (ap (λ (w : Weight). w .objection) (c .no-weight2 .ensures))
-    (λ us t. weight-cut (now (a .bytes)) (progressIn (a .p) us t) (not-false _ (c .before .before .before .before .before .if1 .left))
+    (λ us hs t. weight-cut (now (a .bytes)) (progressIn (a .p) us hs t) (not-false _ (c .before .before .before .before .before .if1 .left))
     (sym (c .before .before .before .read-amount .ensures) ∙ c .before .enum-told .given .1))
 
 -- where the weight is tested
@@ -83,14 +83,14 @@ returns-3 c =
     let k = c .before .before in
     let a = start k .args in
     found (onWeight (now (a .bytes))) (a .p) 9 0 (take (a .p .work)) (c .no-weight3 .result .weight) (c .no-weight3 .result .objection) R.OutOfRange (ap (λ (w : Weight). w .objection) (c .no-weight3 .ensures))
-    (λ us t. weight-out (now (a .bytes)) (progressIn (a .p) us t) (begun k) (weight k) (read k) (sym (fits k) ∙ not-true _ (c .before .if2 .taken)))
+    (λ us hs t. weight-out (now (a .bytes)) (progressIn (a .p) us hs t) (begun k) (weight k) (read k) (sym (fits k) ∙ not-true _ (c .before .if2 .taken)))
 
 returns-4 : tie.Need-returns-4
 returns-4 c =
     let k = c .before in
     let a = start k .args in
     let h : weightFits (weight k) ≡ true = sym (fits k) ∙ not-false _ (c .if2 .left) in
-    rw (exact k) (λ us t. sym (weight-in (now (a .bytes)) (progressIn (a .p) us t) (begun k) (weight k) (read k) h), λ n. of-true h)
+    rw (exact k) (λ us hs t. sym (weight-in (now (a .bytes)) (progressIn (a .p) us hs t) (begun k) (weight k) (read k) h), λ n. of-true h)
 
 pub read-weight-spec : {M : Type 1} → statement M
 read-weight-spec =
