@@ -15,22 +15,23 @@ use Rattle.listing.specs.Code.{codeOf}
 use Rattle.listing.specs.CodeLaws.{codesFrom, code-of-lines}
 use Rattle.listing.proofs.Writes.{written-front}
 
-pub all-left : (n : ℕ) {t : Table} (q : Fits 128 t) (code : ℕ) → code ≡ basis → codesFrom (suc (t .lines) - 0) 0 code n (linesOf t) ≡ codeOf n (linesOf t)
-all-left n {t} q code e =
-    let l : suc (t .lines) - 0 ≡ suc (length (linesOf t)) = omega (arith, length-lines q) in
-    rw (l, e) (code-of-lines n (linesOf t))
+pub all-left : (n : ℕ) (H : List (List ℕ)) {t : Table} (q : Fits 128 t) (last code : ℕ) → last ≡ length H + t .lines → code ≡ basis
+    → codesFrom (suc last - 0) 0 code n H (linesOf t) ≡ codeOf n H (linesOf t)
+all-left n H {t} q last code h e =
+    let l : suc last - 0 ≡ suc (length H + length (linesOf t)) = omega (arith, length-lines q) in
+    rw (l, e) (code-of-lines n H (linesOf t))
 
 -- the text of the next number is added from the front of the bytes that it was written to
-pub one-less : (lines number code n : ℕ) (L : List Line) (area bytes : List ℕ) (size next : ℕ) → number ≤ lines → size ≡ length (textOf number n L)
-    → bytes ≡ overwritten area 0 (textOf number n L) → next ≡ addBytes code (take size bytes)
-    → codesFrom (suc lines - (number + 1)) (number + 1) next n L ≡ codesFrom (suc lines - number) number code n L
+pub one-less : (last number code n : ℕ) (H : List (List ℕ)) (L : List Line) (area bytes : List ℕ) (size next : ℕ) → number ≤ last
+    → size ≡ length (textOf number n H L) → bytes ≡ overwritten area 0 (textOf number n H L) → next ≡ addBytes code (take size bytes)
+    → codesFrom (suc last - (number + 1)) (number + 1) next n H L ≡ codesFrom (suc last - number) number code n H L
 unfolding codesFrom
-one-less lines number code n L area bytes size next h s b e =
-    let text : List ℕ = textOf number n L in
-    let k : suc lines - number ≡ suc (suc lines - (number + 1)) = omega arith in
+one-less last number code n H L area bytes size next h s b e =
+    let text : List ℕ = textOf number n H L in
+    let k : suc last - number ≡ suc (suc last - (number + 1)) = omega arith in
     let f : next ≡ addBytes code text = e ∙ ap (addBytes code) (ap₂ take s b ∙ written-front area text) in
     rw (k, f, add-one)
 
-pub none-left : (lines number code n : ℕ) (L : List Line) → lines < number → codesFrom (suc lines - number) number code n L ≡ code
+pub none-left : (last number code n : ℕ) (H : List (List ℕ)) (L : List Line) → last < number → codesFrom (suc last - number) number code n H L ≡ code
 unfolding codesFrom
-none-left lines number code n L h = let k : suc lines - number ≡ 0 = omega arith in rw k
+none-left last number code n H L h = let k : suc last - number ≡ 0 = omega arith in rw k

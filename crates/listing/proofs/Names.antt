@@ -5,7 +5,7 @@ use mathlib.Core.List.{List, [], _∷_, _++_, map, append-assoc, append-nil}
 use Prim.Native.Nat.{ℕ, zero, suc, _+_, _-_, _/_, _%_, _^_, _≤_, _<_}
 use native.Mathlib.Numerals.{add-one}
 use native.Mathlib.Omega.{arith}
-use native.Mathlib.Nat.{not-suc-le-zero, pow-suc, pow-succ', div-one, div-div-eq-div-mul}
+use native.Mathlib.Nat.{not-suc-le-zero, suc-ne-zero, pow-suc, pow-succ', div-one, div-div-eq-div-mul}
 use lib.Count.{trailingZeros, under}
 use lib.ListN.{length, getD, drop, drop-of-length-le}
 use lib.Seq.{drop-cons}
@@ -13,7 +13,7 @@ use lib.IntN.{ℤ}
 use borrow.Author.Tests.{eq-eqb, ne-eqb}
 use Rattle.configuration.specs.Configuration.{line}
 use Rattle.listing.specs.Words.{ascii}
-use Rattle.listing.specs.Listing.{decimal, weightText, joined, nameText, namesFrom, namesText, termText, termsText, lineText, headerText}
+use Rattle.listing.specs.Listing.{decimal, weightText, joined, nameText, namesFrom, namesText, termText, termsText, lineText, hardText, hardLine, headerText}
 use Rattle.listing.specs.Writing.{starred}
 
 -- texts, each with something in front
@@ -165,6 +165,30 @@ pub line-parts : (f : List ℕ) (w : ℤ) → lineText (line f w) ≡ weightText
 unfolding lineText
 line-parts f w = simp append-assoc
 
-pub header-parts : (n k : ℕ) → headerText n k ≡ ascii "variables " ++ (decimal n ++ (ascii "\nlines " ++ (decimal k ++ ascii "\n")))
+pub header-parts : (n c k : ℕ)
+    → headerText n c k ≡ ascii "variables " ++ (decimal n ++ (ascii "\nlines " ++ (decimal c ++ (ascii "\n" ++ hardLine k))))
 unfolding headerText
-header-parts n k = regroup (ascii "variables ") (decimal n) (ascii "\nlines ") (decimal k) (ascii "\n")
+header-parts n c k =
+    append-assoc (ascii "variables " ++ decimal n ++ ascii "\nlines " ++ decimal c) (ascii "\n") (hardLine k)
+    ∙ regroup (ascii "variables ") (decimal n) (ascii "\nlines ") (decimal c) (ascii "\n" ++ hardLine k)
+
+-- ---- hard polynomials: the line that counts them, and one of them
+pub line-of-none : (k : ℕ) → k ≡ 0 → hardLine k ≡ []
+unfolding hardLine
+line-of-none zero e = refl
+line-of-none (suc k) e = absurd (suc-ne-zero k e)
+
+pub line-of-some : (k : ℕ) → (k ≡ 0 → ⊥) → hardLine k ≡ ascii "hard " ++ (decimal k ++ ascii "\n")
+unfolding hardLine
+line-of-some zero z = absurd (z refl)
+line-of-some (suc k) z = append-assoc (ascii "hard ") (decimal (suc k)) (ascii "\n")
+
+pub text-of-zero : (f : List ℕ) → length f ≡ 0 → hardText f ≡ ascii "0\n"
+unfolding hardText
+text-of-zero [] e = refl
+text-of-zero (t ∷ f) e = absurd (suc-ne-zero (length f) e)
+
+pub text-of-terms : (f : List ℕ) → (length f ≡ 0 → ⊥) → hardText f ≡ termsText f ++ ascii "\n"
+unfolding hardText
+text-of-terms [] z = absurd (z refl)
+text-of-terms (t ∷ f) z = refl

@@ -5,5 +5,5 @@ use Rattle.fnv.specs.Fnv.{basis, addBytes}
 use Rattle.configuration.specs.Configuration.{Line}
 use Rattle.listing.specs.Listing.{listingOf}
 
-abbrev pub codeOf : ℕ → List Line → ℕ
-codeOf n L = addBytes basis (listingOf n L)
+abbrev pub codeOf : ℕ → List (List ℕ) → List Line → ℕ
+codeOf n H L = addBytes basis (listingOf n H L)

@@ -1,6 +1,7 @@
 -- The listing of a configuration, byte by byte. Document 01: "`variables` is n, `lines` the count; a line is weight, colon, terms. Variables in a term
 -- ascend, joined by `*`. Terms are joined by ` + `, mask 0 is written `1`; the weight is decimal, with `-` in front if negative, and one space follows
--- the colon. .. Every line ends in a newline byte."
+-- the colon. .. Every line ends in a newline byte." Document 02, Ask 1: "With k hard polynomials, k above 0, the listing gains a line `hard k` after
+-- `lines` (part of number 0), then the hard polynomials in entry order, each its terms alone or `0`."
 use mathlib.Core.Bool.{cond}
 use mathlib.Core.List.{List, [], _∷_, _++_, map}
 use Prim.Native.Nat.{ℕ, zero, suc, _+_, _/_, _%_}
@@ -50,22 +51,37 @@ termText t = cond (eqb t 0) (ascii "1") (namesText t)
 abbrev pub termsText : List ℕ → List ℕ
 termsText f = joined (ascii " + ") (map termText f)
 
--- ---- a line, and the two lines of the header
+-- ---- a line, a hard polynomial, and the lines of the header
 unfoldable pub lineText : Line → List ℕ
 lineText (line f w) = weightText w ++ ascii ": " ++ termsText f ++ ascii "\n"
 
-unfoldable pub headerText : ℕ → ℕ → List ℕ
-headerText n k = ascii "variables " ++ decimal n ++ ascii "\nlines " ++ decimal k ++ ascii "\n"
+unfoldable pub hardText : List ℕ → List ℕ
+hardText [] = ascii "0\n"
+hardText (t ∷ f) = termsText (t ∷ f) ++ ascii "\n"
 
--- ---- "Number 0 gives two header lines, numbers 1 up the lines in order."
-unfoldable pub textOf : ℕ → ℕ → List Line → List ℕ
-textOf zero n L = headerText n (length L)
-textOf (suc i) n L = lineText (getD L i (line [] (pos 0)))
+-- without hard polynomials there is no such line
+unfoldable pub hardLine : ℕ → List ℕ
+hardLine zero = []
+hardLine (suc k) = ascii "hard " ++ decimal (suc k) ++ ascii "\n"
 
-unfoldable pub lineTexts : List Line → List ℕ
-lineTexts [] = []
-lineTexts (l ∷ L) = lineText l ++ lineTexts L
+-- of n variables, c weighted lines and k hard polynomials
+unfoldable pub headerText : ℕ → ℕ → ℕ → List ℕ
+headerText n c k = ascii "variables " ++ decimal n ++ ascii "\nlines " ++ decimal c ++ ascii "\n" ++ hardLine k
 
--- the whole listing
-unfoldable pub listingOf : ℕ → List Line → List ℕ
-listingOf n L = headerText n (length L) ++ lineTexts L
+-- ---- "Number 0 gives two header lines, numbers 1 up the lines in order." and of k hard polynomials: "Line numbers 1 to k then mean them"
+-- the texts of the numbers from 1 on
+abbrev pub textsBehind : List (List ℕ) → List Line → List (List ℕ)
+textsBehind H L = map hardText H ++ map lineText L
+
+-- the text of a number
+unfoldable pub textOf : ℕ → ℕ → List (List ℕ) → List Line → List ℕ
+textOf zero n H L = headerText n (length L) (length H)
+textOf (suc i) n H L = getD (textsBehind H L) i []
+
+-- the whole listing: the header, and these texts one after the other
+unfoldable pub concat : List (List ℕ) → List ℕ
+concat [] = []
+concat (x ∷ xs) = x ++ concat xs
+
+unfoldable pub listingOf : ℕ → List (List ℕ) → List Line → List ℕ
+listingOf n H L = headerText n (length L) (length H) ++ concat (textsBehind H L)
