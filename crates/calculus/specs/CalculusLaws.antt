@@ -1,5 +1,5 @@
--- Laws of the calculus: every rule keeps every cost, and so does a step, taken or refused; where PROD changes nothing; what a step that is taken passed and left;
--- that a configuration stays one; and the same of a step that is taken directly.
+-- Laws of the calculus: every rule keeps every cost, the hard step those of the assignments at which its hard polynomial is 0, and so does a step, taken or
+-- refused; where PROD changes nothing; what a step that is taken passed and left; that a configuration stays one; and the same of one taken directly.
 use mathlib.Core.Path.{_≡_, refl, sym, ap, ap₂, _∙_}
 use mathlib.Core.Logic.{_⊎_, inl, inr}
 use mathlib.Core.Bool.{Bool, true, false, not, _&&_, _||_, cond, true≢false}
@@ -28,14 +28,27 @@ use Rattle.configuration.specs.SumLaws.{share-neg, solve, o, v, _⊞_, ⊟}
 use Rattle.configuration.specs.ConfigurationLaws.{same-is, same-none, total-negated, total-append, same-changes, cost-all, weight-all, all-every, all-ordered, weight-behind, weight-head, all-fit}
 use Rattle.configuration.specs.Limits.{within}
 use Rattle.configuration.specs.LineLaws.{polynomial-below, polynomial-is, sum-sign, every-append, within-accepted, configuration-parts, parts-configuration}
-use Rattle.calculus.specs.Calculus.{premises, conclusions, changes, isPlain, amountFits, covers, there, modeTests, lengthTests, changed, step, operandTests, directStep}
+use Rattle.hard.specs.Hard.{isHardList, hardAt, Admissible}
+use Rattle.hard.specs.HardLaws.{hard-polynomial, consistent-zero}
+use Rattle.calculus.specs.Calculus.{premises, conclusions, changes, isPlain, amountFits, covers, there, ruleNamed, modeTests, lengthTests, changed, step, operandTests, directStep}
 use Rattle.calculus.specs.declared.Rule.{Rule}
-use Rattle.calculus.specs.declared.Rule.the-variants.{Sum, Prod}
+use Rattle.calculus.specs.declared.Rule.the-variants.{Sum, Prod, Hard}
 use Rattle.calculus.specs.declared.Mode.{Mode}
 use Rattle.calculus.specs.declared.Mode.the-variants.{Plain}
 use Rattle.run.specs.BooleanLaws as B
 
--- ---- every rule is strongly sound: its conclusions cost what its premises cost, at every assignment
+-- ---- every rule is strongly sound: its conclusions cost what its premises cost, at every assignment that has what the rule asks
+-- what a rule asks of an assignment: E that its hard polynomial is 0 there, SUM and PROD nothing
+abbrev pub Asks : List (List ℕ) → Rule → ℕ → Type 0
+Asks H Sum α = Unit {0}
+Asks H Prod α = Unit {0}
+Asks H (Hard i) α = eval (hardAt H i) α ≡ false
+
+pub admissible-asks : (H : List (List ℕ)) (r : Rule) (α : ℕ) → Admissible H α → Asks H r α
+admissible-asks H Sum α a = tt
+admissible-asks H Prod α a = tt
+admissible-asks H (Hard i) α a = consistent-zero H i α (a .meets)
+
 sum-sound : (a b : Bool) (w : ℤ) → share a w +ℤ (share b w +ℤ pos 0) ≡ share (a && b) (w +ℤ w) +ℤ (share (a ⊕ b) w +ℤ pos 0)
 sum-sound true true w = solve (w ∷ []) (v 0 ⊞ (v 0 ⊞ o)) (v 0 ⊞ v 0 ⊞ (o ⊞ o)) tt
 sum-sound true false w = solve (w ∷ []) (v 0 ⊞ (o ⊞ o)) (o ⊞ (v 0 ⊞ o)) tt
@@ -46,22 +59,29 @@ prod-sound true true w = refl
 prod-sound true false w = solve (w ∷ []) (v 0 ⊞ o) (o ⊞ (v 0 ⊞ o)) tt
 prod-sound false b w = refl
 
-pub sound : (r : Rule) (f g : List ℕ) (w : ℤ) (α : ℕ) → cost (premises r f g w) α ≡ cost (conclusions r f g w) α
+hard-sound : (a b : Bool) (w : ℤ) → share a w +ℤ pos 0 ≡ share (a ⊕ (b && false)) w +ℤ pos 0
+hard-sound true true w = refl
+hard-sound true false w = refl
+hard-sound false true w = refl
+hard-sound false false w = refl
+
+pub sound : (H : List (List ℕ)) (r : Rule) (f g : List ℕ) (w : ℤ) (α : ℕ) → Asks H r α → cost (premises r f g w) α ≡ cost (conclusions H r f g w) α
 unfolding total
-sound Sum f g w α = rw (eval-sum f g α, eval-product f g α) (sum-sound (eval f α) (eval g α) w)
-sound Prod f g w α = rw (eval-product f g α, eval-product f (sumOf g ONE) α, eval-sum g ONE α, eval-one α) (prod-sound (eval f α) (eval g α) w)
+sound H Sum f g w α a = rw (eval-sum f g α, eval-product f g α) (sum-sound (eval f α) (eval g α) w)
+sound H Prod f g w α a = rw (eval-product f g α, eval-product f (sumOf g ONE) α, eval-sum g ONE α, eval-one α) (prod-sound (eval f α) (eval g α) w)
+sound H (Hard i) f g w α a = rw (eval-sum f (productOf g (hardAt H i)) α, eval-product g (hardAt H i) α, a) (hard-sound (eval f α) (eval g α) w)
 
 -- ---- what the changes of a rule sum to, and what they do to a configuration
-total-changes : (test : List ℕ → Bool) (r : Rule) (f g : List ℕ) (w : ℤ)
-    → total test (changes r f g w) ≡ negℤ (total test (premises r f g w)) +ℤ total test (conclusions r f g w)
-total-changes test r f g w = total-append test (negated (premises r f g w)) (conclusions r f g w)
-    ∙ ap (λ (z : ℤ). z +ℤ total test (conclusions r f g w)) (total-negated test (premises r f g w))
+total-changes : (test : List ℕ → Bool) (H : List (List ℕ)) (r : Rule) (f g : List ℕ) (w : ℤ)
+    → total test (changes H r f g w) ≡ negℤ (total test (premises r f g w)) +ℤ total test (conclusions H r f g w)
+total-changes test H r f g w = total-append test (negated (premises r f g w)) (conclusions H r f g w)
+    ∙ ap (λ (z : ℤ). z +ℤ total test (conclusions H r f g w)) (total-negated test (premises r f g w))
 
-pub changes-cost : (r : Rule) (f g : List ℕ) (w : ℤ) (α : ℕ) → cost (changes r f g w) α ≡ pos 0
-changes-cost r f g w α = total-changes (λ p. eval p α) r f g w ∙ rw (sound r f g w α) (+ℤ-invl (cost (conclusions r f g w) α))
+pub changes-cost : (H : List (List ℕ)) (r : Rule) (f g : List ℕ) (w : ℤ) (α : ℕ) → Asks H r α → cost (changes H r f g w) α ≡ pos 0
+changes-cost H r f g w α a = total-changes (λ p. eval p α) H r f g w ∙ rw (sound H r f g w α a) (+ℤ-invl (cost (conclusions H r f g w) α))
 
-pub stepped-cost : (r : Rule) (f g : List ℕ) (w : ℤ) (L : List Line) (α : ℕ) → cost (addAll (changes r f g w) L) α ≡ cost L α
-stepped-cost r f g w L α = cost-all (changes r f g w) L α ∙ rw (changes-cost r f g w α) (+ℤ-idr (cost L α))
+pub stepped-cost : (H : List (List ℕ)) (r : Rule) (f g : List ℕ) (w : ℤ) (L : List Line) (α : ℕ) → Asks H r α → cost (addAll (changes H r f g w) L) α ≡ cost L α
+stepped-cost H r f g w L α a = cost-all (changes H r f g w) L α ∙ rw (changes-cost H r f g w α a) (+ℤ-idr (cost L α))
 
 -- ---- where f g or f (g + 1) is 0 the other is f, and PROD changes nothing; f has any length
 rest-whole : (f g : List ℕ) → Ordered f → productOf f g ≡ ZERO → productOf f (sumOf g ONE) ≡ f
@@ -79,60 +99,62 @@ product-whole f g s e = unique-everywhere (productOf f g) f (product-ordered f g
     at true false h = absurd (true≢false h)
     at false y h = refl
 
-pub none-changed : (f g : List ℕ) (w : ℤ) → Ordered f → (productOf f g ≡ ZERO) ⊎ (productOf f (sumOf g ONE) ≡ ZERO) → addAll (changes Prod f g w) [] ≡ []
+pub none-changed : (H : List (List ℕ)) (f g : List ℕ) (w : ℤ) → Ordered f → (productOf f g ≡ ZERO) ⊎ (productOf f (sumOf g ONE) ≡ ZERO) → addAll (changes H Prod f g w) [] ≡ []
 unfolding addAll total negated
-none-changed f g w s h = same-changes (changes Prod f g w) [] [] tt (λ p k. go p k h)
+none-changed H f g w s h = same-changes (changes H Prod f g w) [] [] tt (λ p k. go p k h)
   where
-    go : (p : List ℕ) → T (some p) → (productOf f g ≡ ZERO) ⊎ (productOf f (sumOf g ONE) ≡ ZERO) → weight (changes Prod f g w) p ≡ pos 0
+    go : (p : List ℕ) → T (some p) → (productOf f g ≡ ZERO) ⊎ (productOf f (sumOf g ONE) ≡ ZERO) → weight (changes H Prod f g w) p ≡ pos 0
     go p k (inl e) = rw (e, rest-whole f g s e, same-none p k, share-neg (same p f) w)
         (solve (share (same p f) w ∷ []) (⊟ (v 0) ⊞ (o ⊞ (v 0 ⊞ o))) o tt)
     go p k (inr e) = rw (e, product-whole f g s e, same-none p k, share-neg (same p f) w)
         (solve (share (same p f) w ∷ []) (⊟ (v 0) ⊞ (v 0 ⊞ (o ⊞ o))) o tt)
 
 -- ---- what a step that is taken passed, and what it leaves
-pub record TakenStep (r : Rule) (d : Mode) (f g : List ℕ) (w : ℤ) (L M : List Line) : Type 0 where
+pub record TakenStep (H : List (List ℕ)) (r : Rule) (d : Mode) (f g : List ℕ) (w : ℤ) (L M : List Line) : Type 0 where
   pub plain : not (isPlain d && anyNegative L) ≡ true
+  pub named : ruleNamed H r ≡ true
   pub amount : amountFits d w ≡ true
   pub covered : (not (isPlain d) || there L (premises r f g w)) ≡ true
-  pub short : AllPassed (lengthTests (conclusions r f g w))
-  pub result : M ≡ addAll (changes r f g w) L
+  pub short : AllPassed (lengthTests (conclusions H r f g w))
+  pub result : M ≡ addAll (changes H r f g w) L
   pub lines : length M ≤ 128
   pub weights : T (weightsFit M)
 
-pub step-passed : (r : Rule) (d : Mode) (f g : List ℕ) (w : ℤ) (L M : List Line) → step r d f g w L ≡ accepted M → TakenStep r d f g w L M
+pub step-passed : (H : List (List ℕ)) (r : Rule) (d : Mode) (f g : List ℕ) (w : ℤ) (L M : List Line) → step H r d f g w L ≡ accepted M → TakenStep H r d f g w L M
 unfolding step
-step-passed r d f g w L M e =
-    let a : _ = passing-taken (modeTests r d f g w L) (changed r f g w L) e in
-    let h : _ = passing-taken (lengthTests (conclusions r f g w)) (within (addAll (changes r f g w) L)) (a .1) in
-    let x : _ = within-accepted (addAll (changes r f g w) L) M (h .1) in
+step-passed H r d f g w L M e =
+    let a : _ = passing-taken (modeTests H r d f g w L) (changed H r f g w L) e in
+    let h : _ = passing-taken (lengthTests (conclusions H r f g w)) (within (addAll (changes H r f g w) L)) (a .1) in
+    let x : _ = within-accepted (addAll (changes H r f g w) L) M (h .1) in
     record {
       plain = a .0 .0;
-      amount = a .0 .1 .0;
-      covered = a .0 .1 .1 .0;
+      named = a .0 .1 .0;
+      amount = a .0 .1 .1 .0;
+      covered = a .0 .1 .1 .1 .0;
       short = h .0;
       result = x .0;
       lines = rw (x .0) (x .1 .0);
       weights = rw (x .0) (x .1 .1);
     }
 
-pub step-taken : (r : Rule) (d : Mode) (f g : List ℕ) (w : ℤ) (L M : List Line) → step r d f g w L ≡ accepted M → M ≡ addAll (changes r f g w) L
-step-taken r d f g w L M e = step-passed r d f g w L M e .result
+pub step-taken : (H : List (List ℕ)) (r : Rule) (d : Mode) (f g : List ℕ) (w : ℤ) (L M : List Line) → step H r d f g w L ≡ accepted M → M ≡ addAll (changes H r f g w) L
+step-taken H r d f g w L M e = step-passed H r d f g w L M e .result
 
--- ---- a step keeps every cost, taken or refused
-pub step-cost : (r : Rule) (d : Mode) (f g : List ℕ) (w : ℤ) (L : List Line) (α : ℕ) → cost (after L (step r d f g w L) .reached) α ≡ cost L α
-step-cost r d f g w L α = go (step r d f g w L) refl
+-- ---- a step keeps every cost that its rule keeps, taken or refused
+pub step-cost : (H : List (List ℕ)) (r : Rule) (d : Mode) (f g : List ℕ) (w : ℤ) (L : List Line) (α : ℕ) → Asks H r α → cost (after L (step H r d f g w L) .reached) α ≡ cost L α
+step-cost H r d f g w L α a = go (step H r d f g w L) refl
   where
-    go : (s : Outcome (List Line)) → step r d f g w L ≡ s → cost (after L s .reached) α ≡ cost L α
-    go (accepted M) e = rw (step-taken r d f g w L M e) (stepped-cost r f g w L α)
+    go : (s : Outcome (List Line)) → step H r d f g w L ≡ s → cost (after L s .reached) α ≡ cost L α
+    go (accepted M) e = rw (step-taken H r d f g w L M e) (stepped-cost H r f g w L α a)
     go (refused x) e = refl
 
 -- ---- a step that is taken is the rule, folded: premises away, conclusions in, and nothing else
-pub step-weights : (r : Rule) (d : Mode) (f g : List ℕ) (w : ℤ) (L M : List Line) → step r d f g w L ≡ accepted M → (p : List ℕ) → T (some p)
-    → weight M p ≡ weight L p -ℤ weight (premises r f g w) p +ℤ weight (conclusions r f g w) p
-step-weights r d f g w L M e p n =
+pub step-weights : (H : List (List ℕ)) (r : Rule) (d : Mode) (f g : List ℕ) (w : ℤ) (L M : List Line) → step H r d f g w L ≡ accepted M → (p : List ℕ) → T (some p)
+    → weight M p ≡ weight L p -ℤ weight (premises r f g w) p +ℤ weight (conclusions H r f g w) p
+step-weights H r d f g w L M e p n =
     let P : ℤ = weight (premises r f g w) p in
-    let C : ℤ = weight (conclusions r f g w) p in
-    rw (step-taken r d f g w L M e, weight-all p n (changes r f g w) L, total-changes (same p) r f g w) (sym (+ℤ-assoc (weight L p) (negℤ P) C))
+    let C : ℤ = weight (conclusions H r f g w) p in
+    rw (step-taken H r d f g w L M e, weight-all p n (changes H r f g w) L, total-changes (same p) H r f g w) (sym (+ℤ-assoc (weight L p) (negℤ P) C))
 
 -- ---- signs
 share-sign : (b : Bool) (w : ℤ) → isNegative w ≡ false → isNegative (share b w) ≡ false
@@ -196,20 +218,21 @@ amount-sign : (w : ℤ) → amountFits Plain w ≡ true → isNegative w ≡ fal
 amount-sign (pos n) h = refl
 amount-sign (negsuc n) h = sym h
 
-conclusions-sign : (r : Rule) (f g : List ℕ) (w : ℤ) → isNegative w ≡ false → anyNegative (conclusions r f g w) ≡ false
+conclusions-sign : (H : List (List ℕ)) (r : Rule) (f g : List ℕ) (w : ℤ) → isNegative w ≡ false → anyNegative (conclusions H r f g w) ≡ false
 unfolding anyNegative
-conclusions-sign Sum f g w h = rw (sum-sign w w h h, h)
-conclusions-sign Prod f g w h = rw h
+conclusions-sign H Sum f g w h = rw (sum-sign w w h h, h)
+conclusions-sign H Prod f g w h = rw h
+conclusions-sign H (Hard i) f g w h = rw h
 
-pub plain-stays : (r : Rule) (f g : List ℕ) (w : ℤ) (L M : List Line) → InOrder L → step r Plain f g w L ≡ accepted M → anyNegative M ≡ false
-plain-stays r f g w L M k e =
-    let q : TakenStep r Plain f g w L M = step-passed r Plain f g w L M e in
+pub plain-stays : (H : List (List ℕ)) (r : Rule) (f g : List ℕ) (w : ℤ) (L M : List Line) → InOrder L → step H r Plain f g w L ≡ accepted M → anyNegative M ≡ false
+plain-stays H r f g w L M k e =
+    let q : TakenStep H r Plain f g w L M = step-passed H r Plain f g w L M e in
     let s : isNegative w ≡ false = amount-sign w (q .amount) in
-    lines-sign M (rw (q .result) (all-ordered (changes r f g w) L k)) (λ p n. rw (step-weights r Plain f g w L M e p n)
-    (sum-sign (weight L p -ℤ weight (premises r f g w) p) (weight (conclusions r f g w) p)
+    lines-sign M (rw (q .result) (all-ordered (changes H r f g w) L k)) (λ p n. rw (step-weights H r Plain f g w L M e p n)
+    (sum-sign (weight L p -ℤ weight (premises r f g w) p) (weight (conclusions H r f g w) p)
     (difference-sign (weight (premises r f g w) p) (weight L p)
     (there-weight L (premises r f g w) p n (of-true (q .covered)) (total-sign (same p) L (not-true (anyNegative L) (q .plain)))))
-    (total-sign (same p) (conclusions r f g w) (conclusions-sign r f g w s))))
+    (total-sign (same p) (conclusions H r f g w) (conclusions-sign H r f g w s))))
 
 -- ---- a step keeps what is asked of every line
 -- lines of at most 64 terms are of polynomials where their terms are ordered and of n variables
@@ -223,16 +246,22 @@ every-negated P [] a = tt
 every-negated P (line f w ∷ L) a = (a .0, every-negated P L (a .1))
 
 -- what holds of f, of g and of each conclusion holds of each change
-changes-every : (P : List ℕ → Type 0) (r : Rule) (f g : List ℕ) (w : ℤ) → P f → P g → Every P (conclusions r f g w) → Every P (changes r f g w)
-changes-every P r f g w hf hg h = every-append P (negated (premises r f g w)) (conclusions r f g w) (every-negated P (premises r f g w) (go r)) h
+changes-every : (P : List ℕ → Type 0) (H : List (List ℕ)) (r : Rule) (f g : List ℕ) (w : ℤ) → P f → P g → Every P (conclusions H r f g w) → Every P (changes H r f g w)
+changes-every P H r f g w hf hg h = every-append P (negated (premises r f g w)) (conclusions H r f g w) (every-negated P (premises r f g w) (go r)) h
   where
     go : (r : Rule) → Every P (premises r f g w)
     go Sum = (hf, (hg, tt))
     go Prod = (hf, tt)
+    go (Hard i) = (hf, tt)
+
+-- the hard polynomials of n variables have no others
+pub hard-below : (n : ℕ) (H : List (List ℕ)) → T (isHardList n H) → (i : ℕ) → Below n (hardAt H i)
+hard-below n H h i = polynomial-below n (hardAt H i) (hard-polynomial n i H h)
 
 -- the conclusions are in order, and of no other variables
-conclusions-run : (r : Rule) (f g : List ℕ) (w : ℤ) (n : ℕ) → Below n f → Below n g → Every (RunBelow n) (conclusions r f g w)
-conclusions-run r f g w n a b = go r
+conclusions-run : (H : List (List ℕ)) (r : Rule) (f g : List ℕ) (w : ℤ) (n : ℕ) → ((i : ℕ) → Below n (hardAt H i)) → Below n f → Below n g
+    → Every (RunBelow n) (conclusions H r f g w)
+conclusions-run H r f g w n k a b = go r
   where
     g₁ : List ℕ
     g₁ = sumOf g ONE
@@ -240,36 +269,37 @@ conclusions-run r f g w n a b = go r
     one : Below n ONE
     one = (pow-pos n, tt)
 
-    go : (r : Rule) → Every (RunBelow n) (conclusions r f g w)
+    go : (r : Rule) → Every (RunBelow n) (conclusions H r f g w)
     go Sum = ((product-below n f g a b, product-ordered f g), ((sum-below n f g a b, sum-ordered f g), tt))
     go Prod = ((product-below n f g a b, product-ordered f g), ((product-below n f g₁ a (sum-below n g ONE b one), product-ordered f g₁), tt))
+    go (Hard i) = let q : List ℕ = productOf g (hardAt H i) in ((sum-below n f q a (product-below n g (hardAt H i) b (k i)), sum-ordered f q), tt)
 
--- so are the lines that a step leaves, where those before it are
-pub step-run : (r : Rule) (d : Mode) (f g : List ℕ) (w : ℤ) (n : ℕ) (L M : List Line) → RunBelow n f → RunBelow n g → Every (RunBelow n) L → step r d f g w L ≡ accepted M
-    → Every (RunBelow n) M
-step-run r d f g w n L M hf hg h e =
-    rw (step-taken r d f g w L M e)
-    (all-every (RunBelow n) (changes r f g w) L (changes-every (RunBelow n) r f g w hf hg (conclusions-run r f g w n (hf .0) (hg .0))) h)
+-- so are the lines that a step leaves, where those before it are and the hard polynomials have no other variables
+pub step-run : (H : List (List ℕ)) (r : Rule) (d : Mode) (f g : List ℕ) (w : ℤ) (n : ℕ) (L M : List Line) → ((i : ℕ) → Below n (hardAt H i)) → RunBelow n f → RunBelow n g
+    → Every (RunBelow n) L → step H r d f g w L ≡ accepted M → Every (RunBelow n) M
+step-run H r d f g w n L M k hf hg h e =
+    rw (step-taken H r d f g w L M e)
+    (all-every (RunBelow n) (changes H r f g w) L (changes-every (RunBelow n) H r f g w hf hg (conclusions-run H r f g w n k (hf .0) (hg .0))) h)
 
-module _ (r : Rule) (f g : List ℕ) (w : ℤ) (n : ℕ) (hf : T (isPolynomial n f)) (hg : T (isPolynomial n g)) where
-  conclusions-fit : AllPassed (lengthTests (conclusions r f g w)) → Every (λ p. T (isPolynomial n p)) (conclusions r f g w)
-  conclusions-fit h = short-fit n (conclusions r f g w) h (conclusions-run r f g w n (polynomial-below n f hf) (polynomial-below n g hg))
+module _ (H : List (List ℕ)) (r : Rule) (f g : List ℕ) (w : ℤ) (n : ℕ) (k : T (isHardList n H)) (hf : T (isPolynomial n f)) (hg : T (isPolynomial n g)) where
+  conclusions-fit : AllPassed (lengthTests (conclusions H r f g w)) → Every (λ p. T (isPolynomial n p)) (conclusions H r f g w)
+  conclusions-fit h = short-fit n (conclusions H r f g w) h (conclusions-run H r f g w n (hard-below n H k) (polynomial-below n f hf) (polynomial-below n g hg))
 
-  changes-fit : AllPassed (lengthTests (conclusions r f g w)) → Every (λ p. T (isPolynomial n p)) (changes r f g w)
-  changes-fit h = changes-every (λ p. T (isPolynomial n p)) r f g w hf hg (conclusions-fit h)
+  changes-fit : AllPassed (lengthTests (conclusions H r f g w)) → Every (λ p. T (isPolynomial n p)) (changes H r f g w)
+  changes-fit h = changes-every (λ p. T (isPolynomial n p)) H r f g w hf hg (conclusions-fit h)
 
-pub step-fits : (r : Rule) (d : Mode) (f g : List ℕ) (w : ℤ) (n : ℕ) (L M : List Line) → T (isPolynomial n f) → T (isPolynomial n g) → T (linesFit n L)
-    → step r d f g w L ≡ accepted M → T (linesFit n M) × (length M ≤ 128) × T (weightsFit M)
-step-fits r d f g w n L M p q h e =
-    let s : TakenStep r d f g w L M = step-passed r d f g w L M e in
-    (rw (s .result) (all-fit n (changes r f g w) L (changes-fit r f g w n p q (s .short)) h), s .lines, s .weights)
+pub step-fits : (H : List (List ℕ)) (r : Rule) (d : Mode) (f g : List ℕ) (w : ℤ) (n : ℕ) (L M : List Line) → T (isHardList n H) → T (isPolynomial n f) → T (isPolynomial n g) → T (linesFit n L)
+    → step H r d f g w L ≡ accepted M → T (linesFit n M) × (length M ≤ 128) × T (weightsFit M)
+step-fits H r d f g w n L M k p q h e =
+    let s : TakenStep H r d f g w L M = step-passed H r d f g w L M e in
+    (rw (s .result) (all-fit n (changes H r f g w) L (changes-fit H r f g w n k p q (s .short)) h), s .lines, s .weights)
 
-pub step-keeps : (r : Rule) (d : Mode) (f g : List ℕ) (w : ℤ) (n : ℕ) (L M : List Line) → T (isConfiguration n L) → T (isPolynomial n f) → T (isPolynomial n g)
-    → step r d f g w L ≡ accepted M → T (isConfiguration n M)
-step-keeps r d f g w n L M c p q e =
-    let k : _ = configuration-parts n L c in
-    let h : _ = step-fits r d f g w n L M p q (k .fit) e in
-    parts-configuration n M (record { variables = k .variables; room = h .1; fit = h .0; weights = h .2 })
+pub step-keeps : (H : List (List ℕ)) (r : Rule) (d : Mode) (f g : List ℕ) (w : ℤ) (n : ℕ) (L M : List Line) → T (isHardList n H) → T (isConfiguration n L) → T (isPolynomial n f)
+    → T (isPolynomial n g) → step H r d f g w L ≡ accepted M → T (isConfiguration n M)
+step-keeps H r d f g w n L M k c p q e =
+    let s : _ = configuration-parts n L c in
+    let h : _ = step-fits H r d f g w n L M k p q (s .fit) e in
+    parts-configuration n M (record { variables = s .variables; room = h .1; fit = h .0; weights = h .2 })
 
 -- ---- a step that is taken directly: its operands passed their tests, and it is the step
 -- a test of each and two tests of both, as three tests of each
@@ -282,16 +312,16 @@ operands-passed n f g a =
     regroup (leb (length f) 64) (leb (length g) 64) (below n f) (below n g) (sorted before f) (sorted before g)
     (of-true (a .0)) (of-true (a .1 .0)) (of-true (a .1 .1 .0)) (of-true (a .1 .1 .1 .0))
 
-module _ (r : Rule) (d : Mode) (f g : List ℕ) (w : ℤ) (n : ℕ) (L M : List Line) (e : directStep r d f g w n L ≡ accepted M) where
-  pub direct-passed : T (isPolynomial n f) × T (isPolynomial n g) × (step r d f g w L ≡ accepted M)
+module _ (H : List (List ℕ)) (r : Rule) (d : Mode) (f g : List ℕ) (w : ℤ) (n : ℕ) (L M : List Line) (e : directStep H r d f g w n L ≡ accepted M) where
+  pub direct-passed : T (isPolynomial n f) × T (isPolynomial n g) × (step H r d f g w L ≡ accepted M)
   unfolding directStep
   direct-passed =
-      let a : _ = passing-taken (operandTests n f g) (step r d f g w L) e in
+      let a : _ = passing-taken (operandTests n f g) (step H r d f g w L) e in
       let o : _ = operands-passed n f g (a .0) in
       (o .0, o .1, a .1)
 
-  pub direct-keeps : T (isConfiguration n L) → T (isConfiguration n M)
-  direct-keeps c = let q : _ = direct-passed in step-keeps r d f g w n L M c (q .0) (q .1) (q .2)
+  pub direct-keeps : T (isHardList n H) → T (isConfiguration n L) → T (isConfiguration n M)
+  direct-keeps k c = let q : _ = direct-passed in step-keeps H r d f g w n L M k c (q .0) (q .1) (q .2)
 
-  pub direct-cost : (α : ℕ) → cost M α ≡ cost L α
-  direct-cost α = rw (step-taken r d f g w L M (direct-passed .2)) (stepped-cost r f g w L α)
+  pub direct-cost : (α : ℕ) → Asks H r α → cost M α ≡ cost L α
+  direct-cost α a = rw (step-taken H r d f g w L M (direct-passed .2)) (stepped-cost H r f g w L α a)

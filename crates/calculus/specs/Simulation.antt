@@ -30,13 +30,13 @@ bySum f g w = apply Sum f g w ∷ []
 abbrev pub byProds : List ℕ → List ℕ → ℤ → List Application
 byProds f g w = apply Prod (sumOf f g) f (negℤ w) ∷ apply Prod f g w ∷ apply Prod g f w ∷ []
 
--- the lines that applications, one after the other, leave without limits: the changes of each folded in
-unfoldable pub applied : List Application → List Line → List Line
-applied [] L = L
-applied (apply r f g w ∷ more) L = applied more (addAll (changes r f g w) L)
+-- the lines that applications, one after the other, leave without limits: the changes of each folded in. H is the hard list; SUM and PROD do not read it.
+unfoldable pub applied : List (List ℕ) → List Application → List Line → List Line
+applied H [] L = L
+applied H (apply r f g w ∷ more) L = applied H more (addAll (changes H r f g w) L)
 
 -- each of them is taken as a direct step in signed mode, on the lines of n variables that those before it leave
-abbrev pub AllAccepted : ℕ → List Application → List Line → Type 0
-AllAccepted n [] L = Unit {0}
-AllAccepted n (apply r f g w ∷ more) L =
-    let M = addAll (changes r f g w) L in (directStep r Signed f g w n L ≡ accepted M) × AllAccepted n more M
+abbrev pub AllAccepted : List (List ℕ) → ℕ → List Application → List Line → Type 0
+AllAccepted H n [] L = Unit {0}
+AllAccepted H n (apply r f g w ∷ more) L =
+    let M = addAll (changes H r f g w) L in (directStep H r Signed f g w n L ≡ accepted M) × AllAccepted H n more M

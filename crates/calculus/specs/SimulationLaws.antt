@@ -52,19 +52,20 @@ module _ (f g : List ℕ) where
       at false y = refl
 
 -- ---- applications, one after the other, as one list of changes
-unfoldable changesOf : List Application → List Line
-changesOf [] = []
-changesOf (apply r f g w ∷ more) = changes r f g w ++ changesOf more
+unfoldable changesOf : List (List ℕ) → List Application → List Line
+changesOf H [] = []
+changesOf H (apply r f g w ∷ more) = changes H r f g w ++ changesOf H more
 
-applied-changes : (s : List Application) (L : List Line) → applied s L ≡ addAll (changesOf s) L
+applied-changes : (H : List (List ℕ)) (s : List Application) (L : List Line) → applied H s L ≡ addAll (changesOf H s) L
 unfolding applied changesOf addAll
-applied-changes [] L = refl
-applied-changes (apply r f g w ∷ more) L = applied-changes more (addAll (changes r f g w) L) ∙ sym (changes-append (changes r f g w) (changesOf more) L)
+applied-changes H [] L = refl
+applied-changes H (apply r f g w ∷ more) L =
+    applied-changes H more (addAll (changes H r f g w) L) ∙ sym (changes-append (changes H r f g w) (changesOf H more) L)
 
 -- SUM and the three PRODs change each weight by the same
-same-weights : (f g : List ℕ) (w : ℤ) (p : List ℕ) → weight (changesOf (bySum f g w)) p ≡ weight (changesOf (byProds f g w)) p
+same-weights : (H : List (List ℕ)) (f g : List ℕ) (w : ℤ) (p : List ℕ) → weight (changesOf H (bySum f g w)) p ≡ weight (changesOf H (byProds f g w)) p
 unfolding changesOf total negated
-same-weights f g w p =
+same-weights H f g w p =
     let s : List ℕ → ℤ = λ q. share (same p q) w in
     simp (sum-by-first f g, sum-by-rest f g, product-turned f g, share-neg, share-add)
     (solve (s f ∷ s g ∷ s (sumOf f g) ∷ s (productOf f g) ∷ s (productOf f (sumOf g ONE)) ∷ s (productOf g (sumOf f ONE)) ∷ [])
@@ -72,23 +73,23 @@ same-weights f g w p =
     (⊟ (⊟ (v 2)) ⊞ (⊟ (v 4) ⊞ (⊟ (v 5) ⊞ (⊟ (v 0) ⊞ (v 3 ⊞ (v 4 ⊞ (⊟ (v 1) ⊞ (v 3 ⊞ (v 5 ⊞ o))))))))) tt)
 
 -- ---- without limits: any polynomials, any whole number, any configuration, however long and whatever its weights
-pub sum-by-prods : (f g : List ℕ) (w : ℤ) (L : List Line) → InOrder L → applied (bySum f g w) L ≡ applied (byProds f g w) L
-sum-by-prods f g w L h =
-    applied-changes (bySum f g w) L ∙ same-changes (changesOf (bySum f g w)) (changesOf (byProds f g w)) L h (λ p n. same-weights f g w p)
-    ∙ sym (applied-changes (byProds f g w) L)
+pub sum-by-prods : (H : List (List ℕ)) (f g : List ℕ) (w : ℤ) (L : List Line) → InOrder L → applied H (bySum f g w) L ≡ applied H (byProds f g w) L
+sum-by-prods H f g w L h =
+    applied-changes H (bySum f g w) L ∙ same-changes (changesOf H (bySum f g w)) (changesOf H (byProds f g w)) L h (λ p n. same-weights H f g w p)
+    ∙ sym (applied-changes H (byProds f g w) L)
 
 -- ---- within the limits: SUM passes its tests. Those of f, g and the amount are the second PROD's too; f + g is an operand of the first, f g a conclusion of the second; the lines that result are
 -- those of the third.
-pub sum-accepted : (f g : List ℕ) (w : ℤ) (n : ℕ) (L : List Line) → InOrder L → AllAccepted n (byProds f g w) L → AllAccepted n (bySum f g w) L
+pub sum-accepted : (H : List (List ℕ)) (f g : List ℕ) (w : ℤ) (n : ℕ) (L : List Line) → InOrder L → AllAccepted H n (byProds f g w) L → AllAccepted H n (bySum f g w) L
 unfolding applied
-sum-accepted f g w n L h a =
-    let first : _ = direct-decided Prod Signed (sumOf f g) f (negℤ w) L n .if-taken _ (a .0) .0 in
-    let second : _ = direct-decided Prod Signed f g w _ n .if-taken _ (a .1 .0) .0 in
-    let third : _ = direct-decided Prod Signed g f w _ n .if-taken _ (a .1 .1 .0) .0 in
-    let amount : _ = second .1 .1 .1 .1 .1 .0 in
-    let product-short : _ = second .1 .1 .1 .1 .1 .1 .1 .0 in
-    let lines : _ = ap (λ (M : List Line). leb (length M) 128) (sum-by-prods f g w L h) ∙ third .1 .1 .1 .1 .1 .1 .1 .1 .1 .0 in
-    let weights : _ = ap weightsFit (sum-by-prods f g w L h) ∙ third .1 .1 .1 .1 .1 .1 .1 .1 .1 .1 .0 in
-    let passed : AllPassed (directTests Sum Signed f g w n L) =
-    (second .0, (second .1 .0, (second .1 .1 .0, (second .1 .1 .1 .0, (refl, (amount, (refl, (product-short, (first .0, (lines, (weights, tt))))))))))) in
-    (direct-decided Sum Signed f g w L n .if-passed passed, tt)
+sum-accepted H f g w n L h a =
+    let first : _ = direct-decided H Prod Signed (sumOf f g) f (negℤ w) L n .if-taken _ (a .0) .0 in
+    let second : _ = direct-decided H Prod Signed f g w _ n .if-taken _ (a .1 .0) .0 in
+    let third : _ = direct-decided H Prod Signed g f w _ n .if-taken _ (a .1 .1 .0) .0 in
+    let amount : _ = second .1 .1 .1 .1 .1 .1 .0 in
+    let product-short : _ = second .1 .1 .1 .1 .1 .1 .1 .1 .0 in
+    let lines : _ = ap (λ (M : List Line). leb (length M) 128) (sum-by-prods H f g w L h) ∙ third .1 .1 .1 .1 .1 .1 .1 .1 .1 .1 .0 in
+    let weights : _ = ap weightsFit (sum-by-prods H f g w L h) ∙ third .1 .1 .1 .1 .1 .1 .1 .1 .1 .1 .1 .0 in
+    let passed : AllPassed (directTests H Sum Signed f g w n L) =
+    (second .0, (second .1 .0, (second .1 .1 .0, (second .1 .1 .1 .0, (refl, (refl, (amount, (refl, (product-short, (first .0, (lines, (weights, tt)))))))))))) in
+    (direct-decided H Sum Signed f g w L n .if-passed passed, tt)

@@ -1,12 +1,12 @@
 -- What is found against results; changes that are folded one by one into a table of four; and what a plan promises of it, and a replacement by it.
-use mathlib.Core.Path.{_≡_, refl, sym, ap, _∙_}
+use mathlib.Core.Path.{_≡_, refl, sym, ap, subst, _∙_}
 use mathlib.Core.Logic.{_⊎_, inl, inr}
 use mathlib.Core.List.{List, [], _∷_, _++_}
-use Prim.Native.Nat.{ℕ, _≤_, _<_, _^_}
+use Prim.Native.Nat.{ℕ, zero, suc, _+_, _-_, _*_, _≤_, _<_, _^_}
 use native.Mathlib.Omega.{arith}
-use lib.Dec.{T}
+use lib.Dec.{T, leb→le}
 use lib.IntN.{ℤ, _+ℤ_}
-use lib.ListN.{length, take, length-take}
+use lib.ListN.{length, getD, take, drop, length-take}
 use lib.Signed.{mag}
 use borrow.Author.Tests.{le-leb, lt-leb}
 use Rattle.refusal.specs.Outcome.{Test, after}
@@ -23,10 +23,13 @@ use Rattle.replacement.specs.Passes.{Small}
 use Rattle.configuration.specs.WeightLaws.{mag-add}
 use Rattle.replacement.specs.PassesLaws.{netted-weight, netted-small}
 use Rattle.step.proofs.Added.{all-snoc, small-snoc, add-short, all-short}
+use Rattle.hard.specs.Hard.{hardAt, isNumber}
+use Rattle.hard.specs.Working.{hardIn, HardFits}
+use Rattle.hard.specs.WorkingLaws.{run-one}
 use Rattle.calculus.specs.Calculus.{conclusions, changes, lengthTests}
 use Rattle.calculus.specs.CalculusLaws.{none-changed}
 use Rattle.calculus.specs.declared.Rule.{Rule}
-use Rattle.calculus.specs.declared.Rule.the-variants.{Sum, Prod}
+use Rattle.calculus.specs.declared.Rule.the-variants.{Sum, Prod, Hard}
 use Rattle.table.specs.Rows.{Table, linesOf, capacityOf, Fits, Holds}
 use Rattle.table.specs.RowsLaws.{of-capacity, to-capacity}
 use Rattle.step.specs.Stepping.{Finds, ifNothing, HasPlan}
@@ -79,31 +82,47 @@ module _ {C : List Line} {t : Table} (k : Folded C t) (l : length C < 4) {f x : 
   fold-given h = record { holds = (h .0 ∙ added ∙ sym (all-snoc C [] f w), to-capacity (k .holds .1) (h .1)); small = small-snoc 42 C f w (k .small) q }
 
 -- ---- what a plan promises
-pub made-lines : (r : Rule) (f g : List ℕ) (w : ℤ) (found : Objection) {t : Table} → HasPlan r f g w found t → found ≡ Nothing → linesOf t ≡ addAll (changes r f g w) []
-made-lines r f g w found m e = m .1 .0 ∙ ap (λ (o : Objection). addAll (ifNothing o (changes r f g w)) []) e
+pub made-lines : (H : List (List ℕ)) (r : Rule) (f g : List ℕ) (w : ℤ) (found : Objection) {t : Table} → HasPlan H r f g w found t → found ≡ Nothing → linesOf t ≡ addAll (changes H r f g w) []
+made-lines H r f g w found m e = m .1 .0 ∙ ap (λ (o : Objection). addAll (ifNothing o (changes H r f g w)) []) e
+
+-- the plan of h as the only hard polynomial is that of every number that h has
+pub named-plan : (H : List (List ℕ)) (i : ℕ) (h f g : List ℕ) (w : ℤ) (found : Objection) (t : Table) → h ≡ hardAt H i → HasPlan (h ∷ []) (Hard 1) f g w found t
+    → HasPlan H (Hard i) f g w found t
+named-plan H i h f g w found t e m = subst (λ (p : List ℕ). HasPlan (p ∷ []) (Hard 1) f g w found t) e m
+
+-- the place of a number, from 0
+pub place-of : (H : List (List ℕ)) (i : ℕ) → T (isNumber H i) → (1 ≤ i) × (i - 1 < length H) × (getD H (i - 1) [] ≡ hardAt H i)
+place-of H zero k = absurd k
+place-of H (suc i) k = let e : suc i - 1 ≡ i = omega arith in (omega arith, omega (arith, leb→le (suc i) (length H) k), ap (λ (j : ℕ). getD H j []) e)
+
+pub place-short : (rs : List ℕ) → HardFits rs → (i : ℕ) → i < length (hardIn rs) → length (getD (hardIn rs) i []) ≤ 64
+place-short rs h i l =
+    let s = drop (17 + 64 * i) rs in
+    omega (arith, ap length (run-one rs h i l), length-take (getD rs (1 + i) 0) (take 64 s), length-take 64 s)
 
 -- where f g or f (g + 1) has no term nothing changes
 no-terms : (l : List ℕ) → length l ≡ 0 → l ≡ ZERO
 no-terms [] e = refl
 no-terms (t ∷ l) e = let z : ⊥ = omega arith in absurd z
 
-pub made-none : (f g : List ℕ) (w : ℤ) {t : Table} → Folded [] t → Ordered f → Finds (lengthTests (conclusions Prod f g w)) Nothing
-    → (length (productOf f g) ≡ 0) ⊎ (length (productOf f (sumOf g ONE)) ≡ 0) → HasPlan Prod f g w Nothing t
+pub made-none : (f g : List ℕ) (w : ℤ) {t : Table} → Folded [] t → Ordered f → Finds (lengthTests (conclusions [] Prod f g w)) Nothing
+    → (length (productOf f g) ≡ 0) ⊎ (length (productOf f (sumOf g ONE)) ≡ 0) → HasPlan [] Prod f g w Nothing t
 unfolding addAll
-made-none f g w k s d h = (d, (k .holds .0 ∙ sym (none-changed f g w s (go h)), k .holds .1))
+made-none f g w k s d h = (d, (k .holds .0 ∙ sym (none-changed [] f g w s (go h)), k .holds .1))
   where
     go : (length (productOf f g) ≡ 0) ⊎ (length (productOf f (sumOf g ONE)) ≡ 0) → (productOf f g ≡ ZERO) ⊎ (productOf f (sumOf g ONE) ≡ ZERO)
     go (inl e) = inl (no-terms (productOf f g) e)
     go (inr e) = inr (no-terms (productOf f (sumOf g ONE)) e)
 
 -- ---- what a replacement by the table asks for, and leaves
-few-changes : (r : Rule) (f g : List ℕ) (w : ℤ) → length (changes r f g w) ≤ 4
+few-changes : (H : List (List ℕ)) (r : Rule) (f g : List ℕ) (w : ℤ) → length (changes H r f g w) ≤ 4
 unfolding negated
-few-changes Sum f g w = omega arith
-few-changes Prod f g w = omega arith
+few-changes H Sum f g w = omega arith
+few-changes H Prod f g w = omega arith
+few-changes H (Hard i) f g w = omega arith
 
-pub small-folded : (r : Rule) (f g : List ℕ) (w : ℤ) → T (inRange w) → Small 45 (addAll (changes r f g w) [])
-small-folded r f g w h = netted-small (changes r f g w) (few-changes r f g w) (small-changes r f g w h)
+pub small-folded : (H : List (List ℕ)) (r : Rule) (f g : List ℕ) (w : ℤ) → T (inRange w) → Small 45 (addAll (changes H r f g w) [])
+small-folded H r f g w h = netted-small (changes H r f g w) (few-changes H r f g w) (small-changes H r f g w h)
 
 -- changes that were folded among themselves first are the rule's
 pub changed-is : (C L : List Line) → InOrder L → after L (within (addAll (addAll C []) L)) ≡ after L (within (addAll C L))

@@ -5,6 +5,7 @@ mod plan;
 use calculus::Mode;
 use calculus::Rule;
 use configuration::form::is_below;
+use hard::number_of;
 use plan::plan_of;
 use polynomial::Ordering;
 use polynomial::Polynomial;
@@ -22,9 +23,17 @@ ghost use lib.Signed.{leZ};
 ghost use Rattle.refusal.specs.Outcome.{after, stopOf};
 ghost use Rattle.configuration.specs.Weight.{inRange};
 ghost use Rattle.configuration.specs.Configuration.{some, weight, weightsFit};
-ghost use Rattle.calculus.specs.Calculus.{amountFits, premises, there, modeTests, changed, step as stepOf, operandTests};
+ghost use Rattle.hard.specs.Working.{hardIn, HardFits};
+ghost use Rattle.calculus.specs.Calculus.{amountFits, premises, there, ruleNamed, modeTests, changed, step as stepOf, operandTests};
 ghost use Rattle.table.specs.Rows.{tableAt, tableBefore, tableAfter, linesOf, Fits};
-ghost use Rattle.step.specs.Stepping.{Operand, Finds};
+ghost use Rattle.step.specs.Stepping.{Operand, Named, Finds};
+
+// What a step is asked to do: the rule, in which mode, and the amount that it moves.
+pub struct Move {
+    pub rule: Rule,
+    pub mode: Mode,
+    pub amount: i64,
+}
 
 // How many lines a step leaves, and what was found against it: nothing, if it was taken.
 pub struct Moved {
@@ -88,6 +97,7 @@ fn is_there(
 {
     match rule {
         Rule::Prod => is_held(lines, order, terms, weights, counts, f, amount),
+        Rule::Hard(_) => is_held(lines, order, terms, weights, counts, f, amount),
         Rule::Sum => {
             let side = compare(f, g);
             match side {
@@ -106,29 +116,53 @@ fn is_there(
     }
 }
 
-// The mode's tests: a negative line, the amount's range, and the weight that is taken away, in that order.
+// Whether a rule that names a hard polynomial names one that is there.
+fn is_named(hard: &[u32], rule: Rule) -> bool
+    requires { ⌜ HardFits (now hard) ⌝ }
+    ensures { λ r. ⌜ r ≡ ruleNamed (hardIn (now (hard .entry))) rule ⌝ }
+{
+    match rule {
+        Rule::Sum => true,
+        Rule::Prod => true,
+        Rule::Hard(number) => {
+            if number == 0 {
+                return false;
+            }
+            number as usize <= number_of(hard)
+        }
+    }
+}
+
+// The mode's tests: a negative line, the rule's hard polynomial, the amount's range, and the weight that is taken away, in that order.
 fn object(
     lines: usize,
     order: &[u64],
     terms: &[u32],
     weights: &[i64],
     counts: &[u32],
-    rule: Rule,
-    mode: Mode,
+    hard: &[u32],
     f: &[u32],
     g: &[u32],
-    amount: i64,
+    asked: Move,
 ) -> Objection
-    requires { ⌜ Fits 128 (tableAt lines order terms weights counts) ⌝ }
+    requires { ⌜ Fits 128 (tableAt lines order terms weights counts) × HardFits (now hard) ⌝ }
     ensures { λ r. let L = linesOf (tableBefore lines order terms weights counts) in
-        ⌜ Finds (modeTests rule mode (now (f .entry)) (now (g .entry)) amount L) r ⌝ }
+        ⌜ Finds (modeTests (hardIn (now (hard .entry))) (asked .rule) (asked .mode) (now (f .entry)) (now (g .entry)) (asked .amount) L) r ⌝ }
 {
+    let rule = asked.rule;
+    let mode = asked.mode;
+    let amount = asked.amount;
     if let Mode::Plain = mode {
         if !none_negative(lines, order, weights) {
             return Objection::Found(Reason::NegativeLine);
         }
     }
-    if !amount_fits(mode, amount) {
+    let named = is_named(hard, rule);
+    let in_range = amount_fits(mode, amount);
+    if !named {
+        return Objection::Found(Reason::NoSuchHard);
+    }
+    if !in_range {
         return Objection::Found(Reason::OutOfRange);
     }
     if let Mode::Plain = mode {
@@ -146,16 +180,17 @@ fn change(
     terms: &mut [u32],
     weights: &mut [i64],
     counts: &mut [u32],
+    hard: &[u32],
     rule: Rule,
     f: &[u32],
     g: &[u32],
     amount: i64,
 ) -> Moved
     requires { let t = tableAt lines order terms weights counts in
-        ⌜ Fits 128 t × T (weightsFit (linesOf t)) × Operand (now f) × Operand (now g) × T (inRange amount) ⌝ }
+        ⌜ Fits 128 t × T (weightsFit (linesOf t)) × Named (now hard) rule × Operand (now f) × Operand (now g) × T (inRange amount) ⌝ }
     ensures lines { λ r. let L = linesOf (tableBefore lines order terms weights counts) in
         ⌜ record { reached = linesOf (tableAfter (r .lines) order terms weights counts); stop = stopOf (r .objection) }
-        ≡ after L (changed rule (now (f .entry)) (now (g .entry)) amount L) ⌝ }
+        ≡ after L (changed (hardIn (now (hard .entry))) rule (now (f .entry)) (now (g .entry)) amount L) ⌝ }
     ensures fits { λ r. ⌜ Fits 128 (tableAfter (r .lines) order terms weights counts) ⌝ }
 {
     let mut new_order = [0u64, 1, 2, 3];
@@ -166,6 +201,7 @@ fn change(
         rule,
         f,
         g,
+        hard,
         amount,
         &mut new_order,
         &mut new_terms,
@@ -232,36 +268,37 @@ pub fn step(
     terms: &mut [u32],
     weights: &mut [i64],
     counts: &mut [u32],
-    rule: Rule,
-    mode: Mode,
+    hard: &[u32],
     f: &[u32],
     g: &[u32],
-    amount: i64,
+    asked: Move,
 ) -> Moved
     requires { let t = tableAt lines order terms weights counts in
-        ⌜ Fits 128 t × T (weightsFit (linesOf t)) × Operand (now f) × Operand (now g) ⌝ }
-    ensures lines { λ r. let L = linesOf (tableBefore lines order terms weights counts) in
+        ⌜ Fits 128 t × T (weightsFit (linesOf t)) × HardFits (now hard) × Operand (now f) × Operand (now g) ⌝ }
+    ensures lines { λ r. let L = linesOf (tableBefore lines order terms weights counts) in let H = hardIn (now (hard .entry)) in
         ⌜ record { reached = linesOf (tableAfter (r .lines) order terms weights counts); stop = stopOf (r .objection) }
-        ≡ after L (stepOf rule mode (now (f .entry)) (now (g .entry)) amount L) ⌝ }
+        ≡ after L (stepOf H (asked .rule) (asked .mode) (now (f .entry)) (now (g .entry)) (asked .amount) L) ⌝ }
     ensures fits { λ r. ⌜ Fits 128 (tableAfter (r .lines) order terms weights counts) ⌝ }
 {
-    let objection = object(
-        lines,
-        order,
-        terms,
-        weights,
-        counts,
-        rule,
-        mode,
-        f,
-        g,
-        amount,
-    );
+    let objection = object(lines, order, terms, weights, counts, hard, f, g, asked);
     if let Objection::Found(reason) = objection {
         return Moved {
             lines,
             objection: Objection::Found(reason),
         };
     }
-    change(lines, order, terms, weights, counts, rule, f, g, amount)
+    let rule = asked.rule;
+    let amount = asked.amount;
+    change(
+        lines,
+        order,
+        terms,
+        weights,
+        counts,
+        hard,
+        rule,
+        f,
+        g,
+        amount,
+    )
 }

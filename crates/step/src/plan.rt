@@ -1,16 +1,22 @@
 // What a rule takes away and gives, folded in a table of four lines before the configuration is touched. It is for `change` of
-// this crate alone, which lends an empty table once the amount and the operands are tested.
+// this crate alone, which lends an empty table once the rule, the amount and the operands are tested. SUM and PROD read no hard list: the
+// plans of both are promised for the empty one.
 use calculus::Rule;
+use hard::polynomial_at;
 use polynomial::Polynomial;
 use refusal::Objection;
 use refusal::Reason;
 use table::lines::fold_in;
 ghost use mathlib.Core.Path.{_≡_};
+ghost use mathlib.Core.List.{[], _∷_};
+ghost use Prim.Native.Nat.{_≤_};
 ghost use lib.Dec.{T};
+ghost use lib.ListN.{length};
 ghost use Rattle.configuration.specs.Weight.{inRange};
-ghost use Rattle.calculus.specs.declared.Rule.the-variants.{Sum, Prod};
+ghost use Rattle.hard.specs.Working.{hardIn};
+ghost use Rattle.calculus.specs.declared.Rule.the-variants.{Sum, Prod, Hard};
 ghost use Rattle.table.specs.Rows.{tableAt, tableAfter, Fits};
-ghost use Rattle.step.specs.Stepping.{Operand, HasPlan};
+ghost use Rattle.step.specs.Stepping.{Operand, Named, HasPlan};
 
 // How many lines the table has that has the changes of a rule, and what is found against its results: nothing, or that one has
 // more than 64 terms.
@@ -50,7 +56,7 @@ fn plan_sum(
     counts: &mut [u32],
 ) -> Plan
     requires { ⌜ Operand (now f) × Operand (now g) × T (inRange amount) × Fits 4 (tableAt 0 order terms weights counts) ⌝ }
-    ensures { λ r. ⌜ HasPlan Sum (now (f .entry)) (now (g .entry)) amount (r .objection) (tableAfter (r .lines) order terms weights counts) ⌝ }
+    ensures { λ r. ⌜ HasPlan [] Sum (now (f .entry)) (now (g .entry)) amount (r .objection) (tableAfter (r .lines) order terms weights counts) ⌝ }
 {
     let mut product = [0u32; 64];
     let product_length = Polynomial::product(f, g, &mut product);
@@ -84,7 +90,7 @@ fn plan_prod(
     counts: &mut [u32],
 ) -> Plan
     requires { ⌜ Operand (now f) × Operand (now g) × T (inRange amount) × Fits 4 (tableAt 0 order terms weights counts) ⌝ }
-    ensures { λ r. ⌜ HasPlan Prod (now (f .entry)) (now (g .entry)) amount (r .objection) (tableAfter (r .lines) order terms weights counts) ⌝ }
+    ensures { λ r. ⌜ HasPlan [] Prod (now (f .entry)) (now (g .entry)) amount (r .objection) (tableAfter (r .lines) order terms weights counts) ⌝ }
 {
     let mut product = [0u32; 64];
     let n = Polynomial::product(f, g, &mut product);
@@ -110,22 +116,54 @@ fn plan_prod(
     ready(fold_in(two, order, terms, weights, counts, q, amount))
 }
 
-// The plan of a rule. It is for `change` of this crate.
-pub fn plan_of(
-    rule: Rule,
+// The hard step of h: f loses the amount, f + q h gains it. Its plan is that of h as the only hard polynomial.
+fn plan_hard(
     f: &[u32],
-    g: &[u32],
+    q: &[u32],
+    h: &[u32],
     amount: i64,
     order: &mut [u64],
     terms: &mut [u32],
     weights: &mut [i64],
     counts: &mut [u32],
 ) -> Plan
-    requires { ⌜ Operand (now f) × Operand (now g) × T (inRange amount) × Fits 4 (tableAt 0 order terms weights counts) ⌝ }
-    ensures { λ r. ⌜ HasPlan rule (now (f .entry)) (now (g .entry)) amount (r .objection) (tableAfter (r .lines) order terms weights counts) ⌝ }
+    requires { ⌜ Operand (now f) × Operand (now q) × (length (now h) ≤ 64) × T (inRange amount) × Fits 4 (tableAt 0 order terms weights counts) ⌝ }
+    ensures { λ r. let H = now (h .entry) ∷ [] in
+        ⌜ HasPlan H (Hard 1) (now (f .entry)) (now (q .entry)) amount (r .objection) (tableAfter (r .lines) order terms weights counts) ⌝ }
+{
+    let mut result = [0u32; 64];
+    let n = Polynomial::plus_product(f, q, h, &mut result);
+    if 64 < n {
+        return too_long(n);
+    }
+    let one = fold_in(0, order, terms, weights, counts, f, -amount);
+    let r = &result[..n];
+    ready(fold_in(one, order, terms, weights, counts, r, amount))
+}
+
+// The plan of a rule. It is for `change` of this crate.
+pub fn plan_of(
+    rule: Rule,
+    f: &[u32],
+    g: &[u32],
+    hard: &[u32],
+    amount: i64,
+    order: &mut [u64],
+    terms: &mut [u32],
+    weights: &mut [i64],
+    counts: &mut [u32],
+) -> Plan
+    requires { let four = tableAt 0 order terms weights counts in
+        ⌜ Named (now hard) rule × Operand (now f) × Operand (now g) × T (inRange amount) × Fits 4 four ⌝ }
+    ensures { λ r. let H = hardIn (now (hard .entry)) in
+        ⌜ HasPlan H rule (now (f .entry)) (now (g .entry)) amount (r .objection) (tableAfter (r .lines) order terms weights counts) ⌝ }
 {
     match rule {
         Rule::Sum => plan_sum(f, g, amount, order, terms, weights, counts),
         Rule::Prod => plan_prod(f, g, amount, order, terms, weights, counts),
+        Rule::Hard(number) => {
+            let h = polynomial_at(hard, number as usize - 1);
+            plan_hard(f, g, h, amount, order, terms, weights, counts)
+        }
     }
 }

@@ -13,6 +13,7 @@ use Rattle.refusal.specs.declared.Objection.the-variants.{Nothing}
 use Rattle.configuration.specs.Configuration.{Line, addAll}
 use Rattle.configuration.specs.Limits.{within}
 use Rattle.replacement.specs.Passes.{Small}
+use Rattle.hard.specs.Working.{hardIn}
 use Rattle.calculus.specs.Calculus.{changes}
 use Rattle.table.specs.Rows.{Table, linesOf, Fits}
 use Rattle.table.specs.RowsLaws.{fresh-fits, four-order}
@@ -26,7 +27,7 @@ table s = let a = s .args in record { lines = a .lines; order = now (a .order); 
 
 -- the changes of the rule
 abbrev ruled : tie.Start → List Line
-ruled s = changes (s .args .rule) (now (s .args .f)) (now (s .args .g)) (s .args .amount)
+ruled s = changes (hardIn (now (s .args .hard))) (s .args .rule) (now (s .args .f)) (now (s .args .g)) (s .args .amount)
 
 -- what follows the plan, by what was found against the results
 abbrev rest-if : tie.Start → Objection → Outcome (List Line)
@@ -38,7 +39,7 @@ empty = rw four-order (fresh-fits 4 (replicate 256 0) (replicate 4 (pos 0)) (rep
 
 -- ---- the plan
 abbrev start : tie.After-plan-of → tie.Start
-start c = c .before .before .before .before .before .before .before .before .before .before
+start c = c .before .before .before .before .before .before .before .before .before .before .before
 
 -- the table of four, as the plan leaves it
 abbrev four : tie.After-plan-of → Table
@@ -46,13 +47,13 @@ four c =
     let r = c .plan-of in
     record {
       lines = r .result .lines;
-      order = r .last .1 .1 .1 .1 .0;
-      terms = r .last .1 .1 .1 .1 .1 .0;
-      weights = r .last .1 .1 .1 .1 .1 .1 .0;
-      counts = r .last .1 .1 .1 .1 .1 .1 .1 .0;
+      order = r .last .1 .1 .1 .1 .1 .0;
+      terms = r .last .1 .1 .1 .1 .1 .1 .0;
+      weights = r .last .1 .1 .1 .1 .1 .1 .1 .0;
+      counts = r .last .1 .1 .1 .1 .1 .1 .1 .1 .0;
     }
 
-planned : (c : tie.After-plan-of) → (let a = start c .args in HasPlan (a .rule) (now (a .f)) (now (a .g)) (a .amount) (c .plan-of .result .objection) (four c))
+planned : (c : tie.After-plan-of) → (let a = start c .args in HasPlan (hardIn (now (a .hard))) (a .rule) (now (a .f)) (now (a .g)) (a .amount) (c .plan-of .result .objection) (four c))
 planned c = rw (toZ-ofZ (start c .fits .amount)) at (c .plan-of .ensures)
 
 -- a plan against which nothing is found
@@ -63,7 +64,7 @@ fits : (c : tie.After-enum-told) → plan c .plan-of .result .objection ≡ Noth
 fits c = c .enum-told .given .1
 
 four-lines : (c : tie.After-enum-told) → linesOf (four (plan c)) ≡ addAll (ruled (start (plan c))) []
-four-lines c = let a = start (plan c) .args in made-lines (a .rule) (now (a .f)) (now (a .g)) (a .amount) _ (planned (plan c)) (fits c)
+four-lines c = let a = start (plan c) .args in made-lines (hardIn (now (a .hard))) (a .rule) (now (a .f)) (now (a .g)) (a .amount) _ (planned (plan c)) (fits c)
 
 slice-aggregate-plan-of : tie.Need-slice-aggregate-plan-of
 slice-aggregate-plan-of c = refl
@@ -79,8 +80,8 @@ slice-aggregate-plan-of-4 c = refl
 
 plan-of-requires : tie.Need-plan-of-requires
 plan-of-requires c κs =
-    let s = c .before .before .before .before .before .before .before .before .before in
-    (s .pre .2, s .pre .3, rw (toZ-ofZ (s .fits .amount)) (s .pre .4), empty)
+    let s = c .before .before .before .before .before .before .before .before .before .before in
+    (s .pre .2, s .pre .3, s .pre .4, rw (toZ-ofZ (s .fits .amount)) (s .pre .5), empty)
 
 enum-known-objection : tie.Need-enum-known-objection
 enum-known-objection c = search needs
@@ -111,7 +112,7 @@ replace-requires c κs =
     let k = c .before .before .before .before .before .before .before .before in
     let s = start (plan k) in
     let a = s .args in
-    (s .pre .0, s .pre .1, planned (plan k) .1 .1, subst (Small 45) (sym (four-lines k)) (small-folded (a .rule) (now (a .f)) (now (a .g)) (a .amount) (s .pre .4)))
+    (s .pre .0, s .pre .1, planned (plan k) .1 .1, subst (Small 45) (sym (four-lines k)) (small-folded (hardIn (now (a .hard))) (a .rule) (now (a .f)) (now (a .g)) (a .amount) (s .pre .5)))
 
 same-length : tie.Need-same-length
 same-length c = search needs

@@ -1,18 +1,22 @@
--- `object` meets its contract: the tests in their order, and in the signed mode the amount's range alone.
+-- `object` meets its contract: the tests in their order, and in the signed mode the hard polynomial and the amount's range alone.
 use mathlib.Core.Path.{_≡_, sym, _∙_}
 use mathlib.Core.Logic.{⊎-elim}
 use mathlib.Core.Bool.{Bool, true, not, _&&_, _||_}
 use mathlib.Core.List.{List}
 use native.Mathlib.Omega.{arith}
 use denote.Ref.{now}
-use mir.Facts.{toZ-ofZ}
+use mir.Syntax.{w64}
+use mir.Val.{toZ, ofZ}
 use borrow.Author.Needs.{needs}
 use borrow.Author.Tests.{not-true, not-false}
 use Rattle.configuration.specs.Configuration.{Line, anyNegative}
+use Rattle.configuration.proofs.Weights.{read-back}
+use Rattle.hard.specs.Working.{hardIn}
 use Rattle.table.specs.Rows.{Table, linesOf}
 use Rattle.table.specs.RowsLaws.{once-weights}
-use Rattle.calculus.specs.Calculus.{premises, isPlain, amountFits, there}
+use Rattle.calculus.specs.Calculus.{premises, isPlain, ruleNamed, amountFits, there}
 use Rattle.calculus.specs.declared.Mode.the-variants.{Plain}
+use Rattle.step.specs.declared.Move.{Move}
 use Rattle.step.proofs.Amounts.{amount-in-range}
 use Rattle.step.proofs.Tests.{plain-tests, signed-passes}
 use Rattle.step.proofs.object.Statement.{statement}
@@ -24,96 +28,115 @@ table s = let a = s .args in record { lines = a .lines; order = now (a .order); 
 abbrev held : tie.Start → List Line
 held s = linesOf (table s)
 
--- the first test, in the plain mode
-first : (s : tie.Start) → s .args .mode ≡ Plain → not (isPlain (s .args .mode) && anyNegative (held s)) ≡ not (anyNegative (held s))
-first s e = plain-tests (s .args .mode) (anyNegative (held s)) e .0
+abbrev asked : tie.Start → Move
+asked s = s .args .asked
+
+-- what the rule takes away is there
+abbrev is-there : tie.Start → Bool
+is-there s = there (held s) (premises (asked s .rule) (now (s .args .f)) (now (s .args .g)) (asked s .amount))
+
+-- ---- the first test, in the plain mode
+first : (s : tie.Start) → asked s .mode ≡ Plain → not (isPlain (asked s .mode) && anyNegative (held s)) ≡ not (anyNegative (held s))
+first s e = plain-tests (asked s .mode) (anyNegative (held s)) e .0
 
 abbrev begun : tie.At-match-came → tie.Start
-begun c = c .before .before .before .before .before .before
+begun c = c .before .before .before .before .before .before .before .before
 
-first-passed : (c : tie.At-match-came) → not (isPlain (begun c .args .mode) && anyNegative (held (begun c))) ≡ true
+first-passed : (c : tie.At-match-came) → not (isPlain (asked (begun c) .mode) && anyNegative (held (begun c))) ≡ true
 first-passed c =
     ⊎-elim (λ w. first (begun c) (w .1 .given .1) ∙ sym (w .2 .ensures (now (begun c .args .terms)) (now (begun c .args .counts))) ∙ not-false (w .2 .result) (w .3 .left))
-    (λ w. signed-passes (begun c .args .mode) (anyNegative (held (begun c))) (w .1 .given .1) .0)
+    (λ w. signed-passes (asked (begun c) .mode) (anyNegative (held (begun c))) (w .1 .given .1) .0)
     (c .match .came)
 
-second-passed : (c : tie.Else2) → amountFits (begun (c .before .before) .args .mode) (begun (c .before .before) .args .amount) ≡ true
-second-passed c =
-    let s = begun (c .before .before) in
-    let e : c .before .amount-fits .result ≡ amountFits (s .args .mode) (s .args .amount) = rw (toZ-ofZ (s .fits .amount)) at (c .before .amount-fits .ensures) in
-    sym e ∙ not-false (c .before .amount-fits .result) (c .if2 .left)
+-- ---- the second: the hard polynomial
+named-passed : (c : tie.Else2) → (let s = begun (c .before .before .before) in ruleNamed (hardIn (now (s .args .hard))) (asked s .rule) ≡ true)
+named-passed c = let k = c .before .before .is-named in sym (k .ensures) ∙ not-false (k .result) (c .if2 .left)
 
--- the last test, in the plain mode
-third : (c : tie.After-is-there)
-    → (let s = begun (c .before .before .before .before .before) in
-    (not (isPlain (s .args .mode)) || there (held s) (premises (s .args .rule) (now (s .args .f)) (now (s .args .g)) (s .args .amount))) ≡ c .is-there .result)
-third c =
-    let s = begun (c .before .before .before .before .before) in
-    let b : Bool = there (held s) (premises (s .args .rule) (now (s .args .f)) (now (s .args .g)) (s .args .amount)) in
-    let e : c .is-there .result ≡ b = rw (toZ-ofZ (s .fits .amount)) at (c .is-there .ensures) in
-    plain-tests (s .args .mode) b (c .before .enum-told3 .given .1) .1 ∙ sym e
+-- ---- the third: the amount, as the code has it
+exact : (c : tie.At-match-came) → (let w = asked (begun c) .amount in toZ w64 (ofZ w64 w) ≡ w)
+exact c = read-back (asked (begun c) .amount) (c .before .struct-told .given .1 .1 .0 .1)
+
+ranged : (c : tie.After-amount-fits) → (let m = asked (begun (c .before .before)) in c .amount-fits .result ≡ amountFits (m .mode) (m .amount))
+ranged c = rw (exact (c .before .before)) at (c .amount-fits .ensures)
+
+abbrev met : tie.Else3 → tie.At-match-came
+met c = c .before .before .before .before
+
+range-passed : (c : tie.Else3) → (let m = asked (begun (met c)) in amountFits (m .mode) (m .amount) ≡ true)
+range-passed c = let k = c .before .before in sym (ranged k) ∙ not-false (k .amount-fits .result) (c .if3 .left)
+
+-- ---- the last, in the plain mode
+last : (c : tie.After-is-there) → (let s = begun (met (c .before .before .before)) in (not (isPlain (asked s .mode)) || is-there s) ≡ c .is-there .result)
+last c =
+    let k = c .before .before .before in
+    let s = begun (met k) in
+    let e : c .is-there .result ≡ is-there s = rw (exact (met k)) at (c .is-there .ensures) in
+    plain-tests (asked s .mode) (is-there s) (c .before .enum-told3 .given .1) .1 ∙ sym e
 
 enum-told : tie.Need-enum-told
 enum-told c = search needs
 
 none-negative-requires : tie.Need-none-negative-requires
 none-negative-requires c κs =
-    let q = c .before .before .before .before .before .before .before .pre in
+    let q = c .before .before .before .before .before .before .before .before .before .pre .0 in
     (omega (arith, q .room, q .order-length), once-weights q)
 
 returns : tie.Need-returns
 returns c =
     let k = c .before .none-negative in
-    let s = c .before .before .before .before .before .before .before .before .before in
+    let s = c .before .before .before .before .before .before .before .before .before .before .before in
     λ t. rw (first s (c .before .before .enum-told .given .1) ∙ sym (k .ensures (now (s .args .terms)) (now (s .args .counts))) ∙ not-true (k .result) (c .if1 .taken))
 
 enum-told-2 : tie.Need-enum-told-2
 enum-told-2 c = search needs
+
+is-named-requires : tie.Need-is-named-requires
+is-named-requires c κs = search needs
 
 amount-fits-requires : tie.Need-amount-fits-requires
 amount-fits-requires c κs = search needs
 
 returns-2 : tie.Need-returns-2
 returns-2 c =
-    let s = begun (c .before .before) in
-    let e : c .before .amount-fits .result ≡ amountFits (s .args .mode) (s .args .amount) = rw (toZ-ofZ (s .fits .amount)) at (c .before .amount-fits .ensures) in
-    λ t. rw (first-passed (c .before .before), sym e ∙ not-true (c .before .amount-fits .result) (c .if2 .taken))
+    let k = c .before .before .is-named in
+    λ t. rw (first-passed (c .before .before .before), sym (k .ensures) ∙ not-true (k .result) (c .if2 .taken))
+
+returns-3 : tie.Need-returns-3
+returns-3 c =
+    let k = c .before .before in
+    λ t. rw (first-passed (k .before .before), named-passed (c .before), sym (ranged k) ∙ not-true (k .amount-fits .result) (c .if3 .taken))
 
 enum-told-3 : tie.Need-enum-told-3
 enum-told-3 c = search needs
 
 is-there-requires : tie.Need-is-there-requires
 is-there-requires c κs =
-    let s = begun (c .before .before .before .before) in
-    (s .pre, rw (toZ-ofZ (s .fits .amount)) (amount-in-range (s .args .mode) (s .args .amount) (second-passed (c .before .before))))
+    let k = c .before .before in
+    let s = begun (met k) in
+    (s .pre .0, rw (exact (met k)) (amount-in-range (asked s .mode) (asked s .amount) (range-passed k)))
 
-returns-3 : tie.Need-returns-3
-returns-3 c =
-    λ t. rw (
-      first-passed (c .before .before .before .before .before .before),
-      second-passed (c .before .before .before .before),
-      third (c .before) ∙ not-true (c .before .is-there .result) (c .if3 .taken),
-    )
+returns-4 : tie.Need-returns-4
+returns-4 c =
+    let k = c .before .before .before .before in
+    λ t. rw (first-passed (met k), named-passed (k .before), range-passed k, last (c .before) ∙ not-true (c .before .is-there .result) (c .if4 .taken))
 
 enum-told-4 : tie.Need-enum-told-4
 enum-told-4 c = search needs
 
-returns-4 : tie.Need-returns-4
-returns-4 c =
-    λ t. rw (
-      first-passed (c .before .before .before .before .before .before),
-      second-passed (c .before .before .before .before),
-      third (c .before) ∙ not-false (c .before .is-there .result) (c .if3 .left),
-    )
-
 returns-5 : tie.Need-returns-5
 returns-5 c =
+    let k = c .before .before .before .before in
+    λ t. rw (first-passed (met k), named-passed (k .before), range-passed k, last (c .before) ∙ not-false (c .before .is-there .result) (c .if4 .left))
+
+returns-6 : tie.Need-returns-6
+returns-6 c =
     let k = c .before .before in
-    let a = begun (k .before .before) .args in
+    let s = begun (met k) in
     λ t. rw (
-      first-passed (k .before .before),
-      second-passed k,
-      signed-passes (a .mode) (there (held (begun (k .before .before))) (premises (a .rule) (now (a .f)) (now (a .g)) (a .amount))) (c .enum-told4 .given .1) .1,
+      first-passed (met k),
+      named-passed (k .before),
+      range-passed k,
+      signed-passes (asked s .mode) (is-there s) (c .enum-told4 .given .1) .1,
     )
 
 pub object-spec : {M : Type 1} → statement M
@@ -124,11 +147,13 @@ object-spec =
     none-negative-requires
     returns
     enum-told-2
+    is-named-requires
     amount-fits-requires
     returns-2
+    returns-3
     enum-told-3
     is-there-requires
-    returns-3
-    enum-told-4
     returns-4
-    returns-5)
+    enum-told-4
+    returns-5
+    returns-6)

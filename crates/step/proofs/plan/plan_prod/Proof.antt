@@ -38,10 +38,10 @@ abbrev right : tie.Start → List ℕ
 right s = now (s .args .g)
 
 abbrev changed : tie.Start → List Line
-changed s = changes Prod (left s) (right s) (s .args .amount)
+changed s = changes [] Prod (left s) (right s) (s .args .amount)
 
 small : (s : tie.Start) → Small 42 (changed s)
-small s = small-changes Prod (left s) (right s) (s .args .amount) (s .pre .2)
+small s = small-changes [] Prod (left s) (right s) (s .args .amount) (s .pre .2)
 
 -- an amount as the code has it
 gained : (s : tie.Start) → toZ w64 (ofZ w64 (s .args .amount)) ≡ s .args .amount
@@ -81,7 +81,7 @@ told-product c =
 
 -- what is found against the other result is found
 past-product : (c : tie.Else1) (found : Objection)
-    → (let s = opened c in Finds (short (rest s) ∷ []) found → Finds (lengthTests (conclusions Prod (left s) (right s) (s .args .amount))) found)
+    → (let s = opened c in Finds (short (rest s) ∷ []) found → Finds (lengthTests (conclusions [] Prod (left s) (right s) (s .args .amount))) found)
 past-product c found = let s = opened c in not-long _ (product s) (told-product (c .before) .0) (short (rest s) ∷ []) found (c .if1 .left)
 
 -- f g, as it is lent
@@ -114,12 +114,12 @@ past c = c .before .before .before .before
 abbrev begun : tie.Else2 → tie.Start
 begun c = opened (past c)
 
-fits : (c : tie.Else2) → Finds (lengthTests (conclusions Prod (left (begun c)) (right (begun c)) (begun c .args .amount))) Nothing
+fits : (c : tie.Else2) → Finds (lengthTests (conclusions [] Prod (left (begun c)) (right (begun c)) (begun c .args .amount))) Nothing
 fits c = past-product (past c) Nothing (not-long _ (rest (begun c)) (rest-size (c .before)) [] Nothing (c .if2 .left) (λ o. refl))
 
 -- where one of them is 0 nothing changes
 nothing : (c : tie.Else2)
-    → (let s = begun c in (length (product s) ≡ 0) ⊎ (length (rest s) ≡ 0) → HasPlan Prod (left s) (right s) (s .args .amount) Nothing (table s))
+    → (let s = begun c in (length (product s) ≡ 0) ⊎ (length (rest s) ≡ 0) → HasPlan [] Prod (left s) (right s) (s .args .amount) Nothing (table s))
 nothing c = let s = begun c in made-none (left s) (right s) (s .args .amount) (none s) (s .pre .0 .1) (fits c)
 
 -- ---- the table after each change

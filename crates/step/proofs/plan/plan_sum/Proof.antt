@@ -3,7 +3,7 @@ use mathlib.Core.Path.{_≡_, refl, sym, _∙_}
 use mathlib.Core.List.{List, [], _∷_}
 use Prim.Native.Nat.{ℕ, _≤_}
 use native.Mathlib.Omega.{arith}
-use lib.IntN.{ℤ, pos, _+ℤ_, _-ℤ_, negℤ}
+use lib.IntN.{pos, _+ℤ_, _-ℤ_, negℤ}
 use lib.ListN.{length, take}
 use lib.Seq.{length-take-le}
 use denote.Ref.{now}
@@ -36,10 +36,10 @@ abbrev right : tie.Start → List ℕ
 right s = now (s .args .g)
 
 abbrev changed : tie.Start → List Line
-changed s = changes Sum (left s) (right s) (s .args .amount)
+changed s = changes [] Sum (left s) (right s) (s .args .amount)
 
 small : (s : tie.Start) → Small 42 (changed s)
-small s = small-changes Sum (left s) (right s) (s .args .amount) (s .pre .2)
+small s = small-changes [] Sum (left s) (right s) (s .args .amount) (s .pre .2)
 
 -- an amount as the code has it
 gained : (s : tie.Start) → toZ w64 (ofZ w64 (s .args .amount)) ≡ s .args .amount
@@ -84,7 +84,7 @@ begun c = c .before .before .before .before .before .before .before .before .bef
 
 -- the first result, and where it is short enough the second
 abbrev ruled : tie.Start → List Line
-ruled s = conclusions Sum (left s) (right s) (s .args .amount)
+ruled s = conclusions [] Sum (left s) (right s) (s .args .amount)
 
 past-product : (c : tie.Else1) (found : Objection)
     → (let s = c .before .before .before .before .before .before .before .before in Finds (short (sumOf (left s) (right s)) ∷ []) found → Finds (lengthTests (ruled s)) found)
