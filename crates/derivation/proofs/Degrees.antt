@@ -56,27 +56,27 @@ first-degree t fits run = go (t .lines) refl
 
 -- ---- the way
 -- the largest degree so far is d, and with what is ahead it becomes D
-abbrev pub Meets : ℕ → List ℕ → ℕ → ℕ → Progress State → Type 0
-Meets n s D d q = max d (degreeAhead n (length s - q .records) s q) ≡ D
+abbrev pub Meets : ℕ → List (List ℕ) → List ℕ → ℕ → ℕ → Progress State → Type 0
+Meets n H s D d q = max d (degreeAhead n H (length s - q .records) s q) ≡ D
 
-module _ (n : ℕ) (s : List ℕ) (D d : ℕ) (q : Progress State) (m : Meets n s D d q) where
-  pub meets-next : (r : Progress State) → q .records ≤ q .at → q .at < length s → onRecord n s q ≡ accepted r → r .records ≡ suc (q .records)
-      → Meets n s D (max d (degreeIn (r .state .lines))) r
+module _ (n : ℕ) (H : List (List ℕ)) (s : List ℕ) (D d : ℕ) (q : Progress State) (m : Meets n H s D d q) where
+  pub meets-next : (r : Progress State) → q .records ≤ q .at → q .at < length s → onRecord n H s q ≡ accepted r → r .records ≡ suc (q .records)
+      → Meets n H s D (max d (degreeIn (r .state .lines))) r
   unfolding largest
   meets-next r c l e i =
       let k : ℕ = length s - suc (q .records) in
       let more : length s - q .records ≡ suc k = omega arith in
-      let here : degreeAhead n (length s - q .records) s q ≡ max (degreeIn (r .state .lines)) (degreeAhead n k s r) =
-      ap (λ (j : ℕ). degreeAhead n j s q) more ∙ ap (largest degreeIn) (gathers (checking n) leftAfter k s q r l e) in
-      let there : degreeAhead n (length s - r .records) s r ≡ degreeAhead n k s r = ap (λ (j : ℕ). degreeAhead n (length s - j) s r) i in
+      let here : degreeAhead n H (length s - q .records) s q ≡ max (degreeIn (r .state .lines)) (degreeAhead n H k s r) =
+      ap (λ (j : ℕ). degreeAhead n H j s q) more ∙ ap (largest degreeIn) (gathers (checking n H) leftAfter k s q r l e) in
+      let there : degreeAhead n H (length s - r .records) s r ≡ degreeAhead n H k s r = ap (λ (j : ℕ). degreeAhead n H (length s - j) s r) i in
       omega (arith, here, there, m)
 
   pub meets-end : length s ≤ q .at → d ≡ D
   unfolding largest
-  meets-end l = omega (arith, ap (largest degreeIn) (gathers-none (checking n) leftAfter (length s - q .records) s q l), m)
+  meets-end l = omega (arith, ap (largest degreeIn) (gathers-none (checking n H) leftAfter (length s - q .records) s q l), m)
 
-pub meets-start : (n : ℕ) (s : List ℕ) (L : List Line) → Meets n s (derivationDegree s n L) (degreeIn L) (begun (fresh L))
+pub meets-start : (n : ℕ) (H : List (List ℕ)) (s : List ℕ) (L : List Line) → Meets n H s (derivationDegree s n H L) (degreeIn L) (begun (fresh L))
 unfolding largest derivationDegree
-meets-start n s L =
+meets-start n H s L =
     let z : length s - 0 ≡ length s = omega arith in
-    omega (arith, ap (λ (k : ℕ). degreeAhead n k s (begun (fresh L))) z)
+    omega (arith, ap (λ (k : ℕ). degreeAhead n H k s (begun (fresh L))) z)

@@ -50,6 +50,11 @@ pub passes : (p : Progress) (fs us : List ℕ) (t : Table) (q : Progress) (gs vs
     → Leaves x p fs us t r gs vs u
 passes p fs us t q gs vs u r e held d x k = (ap (λ (y : Recorded). leftIn y gs vs u) e ∙ ap (after (progressIn p fs us t)) (sym k), rw e held, rw e d)
 
+-- what is left by one definition is left by an equal one
+pub leaves-as : (p : Progress) (fs us : List ℕ) (t : Table) (r : Recorded) (gs vs : List ℕ) (u : Table) (x y : Outcome (W.Progress State)) → x ≡ y
+    → Leaves y p fs us t r gs vs u → Leaves x p fs us t r gs vs u
+leaves-as p fs us t r gs vs u x y e d = (d .0 ∙ ap (after (progressIn p fs us t)) (sym e), d .1, d .2)
+
 -- what is held stays so where f, the work polynomial, the lines and the degree are as they were
 pub held-on : (p q : Progress) (fs us : List ℕ) (t : Table) → q .first ≡ p .first → q .work ≡ p .work → q .lines ≡ p .lines → q .degree ≡ p .degree → q .records ≤ q .at
     → Held p fs us t → Held q fs us t

@@ -65,46 +65,46 @@ module _ {A : Type 0} (h : A → ℕ) where
 
 -- ---- on the way
 -- the largest degree that is met after a progress, in some number of turns
-abbrev pub degreeAhead : ℕ → ℕ → List ℕ → Progress State → ℕ
-degreeAhead n k s p = largest degreeIn (gathered (checking n) leftAfter k s p)
+abbrev pub degreeAhead : ℕ → List (List ℕ) → ℕ → List ℕ → Progress State → ℕ
+degreeAhead n H k s p = largest degreeIn (gathered (checking n H) leftAfter k s p)
 
 -- some term in some of the configurations has a property
 abbrev pub Met : (ℕ → Type 0) → List (List Line) → Type 0
 Met P way = Some (λ L. Some (λ l. Some P (polynomialOf l)) L) way
 
-module _ (s : List ℕ) (n : ℕ) (L : List Line) where
+module _ (s : List ℕ) (n : ℕ) (H : List (List ℕ)) (L : List Line) where
   -- the degree is at least d, above 0, exactly where a term of at least that degree is met
-  pub met-degree : (d : ℕ) → Met (λ t. d ≤ degreeOf t) (onTheWay s n L) → d ≤ derivationDegree s n L
+  pub met-degree : (d : ℕ) → Met (λ t. d ≤ degreeOf t) (onTheWay s n H L) → d ≤ derivationDegree s n H L
   unfolding derivationDegree degreeIn
   met-degree d m =
-      some-largest degreeIn d (onTheWay s n L) (some-map _ (λ M. d ≤ degreeIn M)
-      (λ M k. some-largest _ d M (some-map _ (λ l. d ≤ largest degreeOf (polynomialOf l)) (λ l i. some-largest degreeOf d (polynomialOf l) i) M k)) (onTheWay s n L) m)
+      some-largest degreeIn d (onTheWay s n H L) (some-map _ (λ M. d ≤ degreeIn M)
+      (λ M k. some-largest _ d M (some-map _ (λ l. d ≤ largest degreeOf (polynomialOf l)) (λ l i. some-largest degreeOf d (polynomialOf l) i) M k)) (onTheWay s n H L) m)
 
-  pub degree-met : (d : ℕ) → 0 < d → d ≤ derivationDegree s n L → Met (λ t. d ≤ degreeOf t) (onTheWay s n L)
+  pub degree-met : (d : ℕ) → 0 < d → d ≤ derivationDegree s n H L → Met (λ t. d ≤ degreeOf t) (onTheWay s n H L)
   unfolding derivationDegree degreeIn
   degree-met d p h =
       some-map (λ M. d ≤ degreeIn M) _
       (λ M k. some-map (λ l. d ≤ largest degreeOf (polynomialOf l)) _ (λ l i. largest-some degreeOf d (polynomialOf l) p i) M (largest-some _ d M p k))
-      (onTheWay s n L) (largest-some degreeIn d (onTheWay s n L) p h)
+      (onTheWay s n H L) (largest-some degreeIn d (onTheWay s n H L) p h)
 
   -- it is at least that of each configuration on the way: at the start, at the end
-  pub degree-each : (M : List Line) → Some (λ N. N ≡ M) (onTheWay s n L) → degreeIn M ≤ derivationDegree s n L
+  pub degree-each : (M : List Line) → Some (λ N. N ≡ M) (onTheWay s n H L) → degreeIn M ≤ derivationDegree s n H L
   unfolding derivationDegree
-  degree-each M m = some-largest degreeIn (degreeIn M) (onTheWay s n L)
-      (some-map (λ N. N ≡ M) (λ N. degreeIn M ≤ degreeIn N) (λ N e. omega (arith, ap degreeIn e)) (onTheWay s n L) m)
+  degree-each M m = some-largest degreeIn (degreeIn M) (onTheWay s n H L)
+      (some-map (λ N. N ≡ M) (λ N. degreeIn M ≤ degreeIn N) (λ N e. omega (arith, ap degreeIn e)) (onTheWay s n H L) m)
 
-  pub degree-start : degreeIn L ≤ derivationDegree s n L
+  pub degree-start : degreeIn L ≤ derivationDegree s n H L
   degree-start = degree-each L (inl refl)
 
-  pub degree-end : degreeIn (checkDerivation s n L .lines) ≤ derivationDegree s n L
-  degree-end = degree-each (checkDerivation s n L .lines) (subst (λ (M : List Line). Some (λ N. N ≡ M) (onTheWay s n L)) (sym (check-lines s n L))
-      (walk-ind (checking n) leftAfter (λ p F C. Some (λ N. N ≡ F .reached .state .lines) (p .state .lines ∷ C)) s
+  pub degree-end : degreeIn (checkDerivation s n H L .lines) ≤ derivationDegree s n H L
+  degree-end = degree-each (checkDerivation s n H L .lines) (subst (λ (M : List Line). Some (λ N. N ≡ M) (onTheWay s n H L)) (sym (check-lines s n H L))
+      (walk-ind (checking n H) leftAfter (λ p F C. Some (λ N. N ≡ F .reached .state .lines) (p .state .lines ∷ C)) s
       (λ p. inl refl) (λ p k e. inl refl) (λ p q F C e rest. inr rest) (length s) (begun (fresh L))))
 
   -- one of them has it
-  pub degree-reached : Some (λ M. degreeIn M ≡ derivationDegree s n L) (onTheWay s n L)
+  pub degree-reached : Some (λ M. degreeIn M ≡ derivationDegree s n H L) (onTheWay s n H L)
   unfolding derivationDegree
-  degree-reached = largest-reached degreeIn L (gathered (checking n) leftAfter (length s) s (begun (fresh L)))
+  degree-reached = largest-reached degreeIn L (gathered (checking n H) leftAfter (length s) s (begun (fresh L)))
 
 -- ---- in one configuration the first term of the first line has the largest
 before-degree : (t u : ℕ) → T (before t u) → degreeOf u ≤ degreeOf t

@@ -1,4 +1,4 @@
--- Checking a derivation: the records of document 01's derivation, what is refused, and what is confirmed.
+-- Checking a derivation: the records of document 01's derivation and document 02's hard step, what is refused, and what is confirmed.
 use mathlib.Core.Bool.{Bool, true, false, cond, not, _&&_}
 use mathlib.Core.List.{List, [], _∷_}
 use Prim.Native.Nat.{ℕ, _+_, max}
@@ -15,11 +15,11 @@ use Rattle.configuration.specs.Made.{Made}
 use Rattle.refusal.specs.Refusal.{numbered, refusalOf}
 use Rattle.calculus.specs.Calculus.{step}
 use Rattle.calculus.specs.declared.Rule.{Rule}
-use Rattle.calculus.specs.declared.Rule.the-variants.{Sum, Prod}
+use Rattle.calculus.specs.declared.Rule.the-variants.{Sum, Prod, Hard}
 use Rattle.calculus.specs.declared.Mode.{Mode}
 use Rattle.calculus.specs.declared.Mode.the-variants.{Plain, Signed}
-use Rattle.record.specs.Letters.{letterN, letterZ, letterM, letterK, letterS, letterP, letterB}
-use Rattle.record.specs.Record.{whole, signedAt}
+use Rattle.record.specs.Letters.{letterN, letterZ, letterM, letterK, letterS, letterP, letterE, letterB}
+use Rattle.record.specs.Record.{whole, numberAt, signedAt}
 use Rattle.walk.specs.Walk.{Progress, begun, past, Reader, readAll, verdict, gathered}
 use Rattle.walk.specs.Work.{termAdded}
 use Rattle.derivation.specs.declared.CheckAnswer.{CheckAnswer}
@@ -93,17 +93,25 @@ onChoice p =
     unless (going x && not (x .chosen)) 4
     (accepted (past p 1 (having true (x .work) ZERO (x .lines) x)))
 
--- the lines that a step leaves; f and the work polynomial are cleared
-abbrev pub afterStep : Progress State → Outcome (List Line) → Outcome (Progress State)
-afterStep p o = mapped (λ L. past p 9 (having false ZERO ZERO L (p .state))) o
+-- the lines that a step leaves, in a record of so many bytes; f and the work polynomial are cleared
+abbrev pub afterStep : Progress State → ℕ → Outcome (List Line) → Outcome (Progress State)
+afterStep p size o = mapped (λ L. past p size (having false ZERO ZERO L (p .state))) o
 
--- S, P: a step of f with the work polynomial
-abbrev pub onStep : Rule → List ℕ → Progress State → Outcome (Progress State)
-onStep r s p =
+-- S, P: a step of f with the work polynomial, where H is the hard list
+abbrev pub onStep : List (List ℕ) → Rule → List ℕ → Progress State → Outcome (Progress State)
+onStep H r s p =
     let x = p .state in
     unless (going x && x .chosen) 4
     (unless (whole 8 s (p .at + 1)) 3
-    (afterStep p (step r (x .mode) (x .first) (x .work) (signedAt s (p .at + 1)) (x .lines))))
+    (afterStep p 9 (step H r (x .mode) (x .first) (x .work) (signedAt s (p .at + 1)) (x .lines))))
+
+-- E: a hard step of f with the work polynomial. Document 02: "record E has one byte for the hard polynomial's number, from 1, and an 8 byte amount w"
+abbrev pub onHard : List (List ℕ) → List ℕ → Progress State → Outcome (Progress State)
+onHard H s p =
+    let x = p .state in
+    unless (going x && x .chosen) 4
+    (unless (whole 9 s (p .at + 1)) 3
+    (afterStep p 10 (step H (Hard (numberAt 1 s (p .at + 1))) (x .mode) (x .first) (x .work) (signedAt s (p .at + 2)) (x .lines))))
 
 -- a claim is from 0 to 10^12
 abbrev pub claimFits : ℤ → Bool
@@ -121,22 +129,23 @@ onClaim s p =
     (unless (leZ w (weight (x .lines) ONE)) 13
     (accepted (past p 9 (closes w x)))))))
 
--- the kinds are the letters N, Z, M, K, S, P and B; n is the number of variables
-unfoldable pub onRecord : ℕ → List ℕ → Progress State → Outcome (Progress State)
-onRecord n s p =
+-- the kinds are the letters N, Z, M, K, S, P, E and B; n is the number of variables, H the hard list
+unfoldable pub onRecord : ℕ → List (List ℕ) → List ℕ → Progress State → Outcome (Progress State)
+onRecord n H s p =
     let kind = getD s (p .at) 0 in
     cond (eqb kind letterN) (onMode Plain p)
     (cond (eqb kind letterZ) (onMode Signed p)
     (cond (eqb kind letterM) (onTerm n s p)
     (cond (eqb kind letterK) (onChoice p)
-    (cond (eqb kind letterS) (onStep Sum s p)
-    (cond (eqb kind letterP) (onStep Prod s p)
+    (cond (eqb kind letterS) (onStep H Sum s p)
+    (cond (eqb kind letterP) (onStep H Prod s p)
+    (cond (eqb kind letterE) (onHard H s p)
     (cond (eqb kind letterB) (onClaim s p)
-    (refused (numbered 4))))))))
+    (refused (numbered 4)))))))))
 
 -- at the end of the bytes B must have come
-abbrev pub checking : ℕ → Reader State
-checking n = record { onRecord = onRecord n; complete = λ x. x .closed }
+abbrev pub checking : ℕ → List (List ℕ) → Reader State
+checking n H = record { onRecord = onRecord n H; complete = λ x. x .closed }
 
 -- ---- the degree
 -- the largest of some numbers, one for each member of a list; 0 of none
@@ -153,14 +162,14 @@ abbrev pub leftAfter : List ℕ → Progress State → Progress State → List (
 leftAfter s p q = q .state .lines ∷ []
 
 -- the configurations on the way: at the start, and after each accepted record
-abbrev pub onTheWay : List ℕ → ℕ → List Line → List (List Line)
-onTheWay s n L = L ∷ gathered (checking n) leftAfter (length s) s (begun (fresh L))
+abbrev pub onTheWay : List ℕ → ℕ → List (List ℕ) → List Line → List (List Line)
+onTheWay s n H L = L ∷ gathered (checking n H) leftAfter (length s) s (begun (fresh L))
 
 -- document 02: "the largest degree met on the way: over the standing at the start and after each accepted record"
-unfoldable pub derivationDegree : List ℕ → ℕ → List Line → ℕ
-derivationDegree s n L = largest degreeIn (onTheWay s n L)
+unfoldable pub derivationDegree : List ℕ → ℕ → List (List ℕ) → List Line → ℕ
+derivationDegree s n H L = largest degreeIn (onTheWay s n H L)
 
--- ---- what a check makes of its bytes and a configuration of n variables
+-- ---- what a check makes of its bytes, a hard list and a configuration of n variables
 -- a claim that is confirmed, and the degree
 pub record Confirmation : Type 0 where
   pub claim : ℤ
@@ -169,14 +178,14 @@ pub record Confirmation : Type 0 where
 abbrev pub confirmed : ℤ → ℕ → Told Confirmation
 confirmed w d = answered (record { claim = w; degree = d })
 
-unfoldable pub checkDerivation : List ℕ → ℕ → List Line → Made Confirmation
-checkDerivation s n L =
-    let r = readAll (checking n) s (fresh L) in
+unfoldable pub checkDerivation : List ℕ → ℕ → List (List ℕ) → List Line → Made Confirmation
+checkDerivation s n H L =
+    let r = readAll (checking n H) s (fresh L) in
     let x = r .reached .state in
     record {
       variables = n;
       lines = x .lines;
-      told = verdict (r .reached .records) (record { claim = x .claim; degree = derivationDegree s n L }) (r .stop);
+      told = verdict (r .reached .records) (record { claim = x .claim; degree = derivationDegree s n H L }) (r .stop);
     }
 
 -- the paper's words for an answer

@@ -9,15 +9,18 @@ use lib.IntN.{ℤ, pos}
 use lib.ListN.{length, getD, take}
 use Rattle.refusal.specs.Outcome.{Outcome, Reached, after, stopOf}
 use Rattle.polynomial.specs.Polynomial.{ZERO, Below, RunBelow}
+use Rattle.hard.specs.Hard.{hardAt}
 use Rattle.configuration.specs.Configuration.{Every, weightsFit}
 use Rattle.table.specs.Rows.{Table, withLines, keyIn, linesOf, Fits}
+use Rattle.calculus.specs.Calculus.{step}
 use Rattle.calculus.specs.declared.Rule.the-variants.{Sum, Prod}
 use Rattle.calculus.specs.declared.Mode.the-variants.{Plain, Signed}
 use Rattle.step.specs.Stepping.{Operand}
-use Rattle.record.specs.Letters.{letterN, letterZ, letterM, letterK, letterS, letterP, letterB}
-use Rattle.derivation.specs.Derivation.{State, degreeIn}
+use Rattle.step.specs.declared.Move.{Move}
+use Rattle.record.specs.Letters.{letterN, letterZ, letterM, letterK, letterS, letterP, letterE, letterB}
+use Rattle.derivation.specs.Derivation.{State, afterStep, degreeIn}
 use Rattle.derivation.specs.declared.Kind.{Kind}
-use Rattle.derivation.specs.declared.Kind.the-variants.{Start, Term, Choice, Step, Claim, Unknown}
+use Rattle.derivation.specs.declared.Kind.the-variants.{Start, Term, Choice, Step, Hard, Claim, Unknown}
 use Rattle.derivation.specs.declared.Progress.{Progress}
 use Rattle.derivation.specs.declared.Recorded.{Recorded}
 use Rattle.walk.specs.Walk as W
@@ -31,8 +34,9 @@ kindOf b =
     (cond (eqb b letterK) Choice
     (cond (eqb b letterS) (Step Sum)
     (cond (eqb b letterP) (Step Prod)
+    (cond (eqb b letterE) Hard
     (cond (eqb b letterB) Claim
-    Unknown))))))
+    Unknown)))))))
 
 -- ---- progress, where it stands
 -- where the areas are those of t, and the progress tells how many lines there are
@@ -122,9 +126,14 @@ pub record Ready (p : Progress) (fs us : List ℕ) (t : Table) : Type 0 where
 abbrev pub Held : Progress → List ℕ → List ℕ → Table → Type 0
 Held p fs us t = Ready p fs us (withLines (p .lines) t)
 
--- what a step asks of f, the work polynomial and the lines
-abbrev pub Usable : State → Type 0
-Usable x = Operand (x .first) × Operand (x .work) × T (weightsFit (x .lines)) × Below 32 (x .first) × Below 32 (x .work) × Every (RunBelow 32) (x .lines)
+-- what a step asks of f, the work polynomial, the lines and the hard list
+abbrev pub Usable : List (List ℕ) → State → Type 0
+Usable H x = Operand (x .first) × Operand (x .work) × T (weightsFit (x .lines)) × Below 32 (x .first) × Below 32 (x .work) × Every (RunBelow 32) (x .lines)
+    × ((i : ℕ) → Below 32 (hardAt H i))
+
+-- a step of f with the work polynomial, as it is asked for in a record of so many bytes
+abbrev pub stepAsked : List (List ℕ) → Move → ℕ → W.Progress State → Outcome (W.Progress State)
+stepAsked H m size q = let x = q .state in afterStep q size (step H (m .rule) (m .mode) (x .first) (x .work) (m .amount) (x .lines))
 
 -- ---- a record that code has read leaves what a definition says of it, and what holds before the next, and the largest degree so far counts the lines that are left. f,
 -- the work polynomial and the table stand in fs, us and t before it, in gs, vs and u after it.

@@ -8,9 +8,12 @@ use polynomial::Polynomial;
 use polynomial::area::write;
 use polynomial::front;
 use record::Amount;
+use record::Byte;
 use record::read_amount;
+use record::read_byte;
 use refusal::Objection;
 use refusal::Reason;
+use step::Move;
 use step::step;
 use table::lines::none_negative;
 use table::lines::weight_of;
@@ -23,9 +26,10 @@ ghost use lib.Dec.{eqb};
 ghost use lib.ListN.{length, take};
 ghost use Rattle.polynomial.specs.Polynomial.{ZERO, ONE, Ordered};
 ghost use Rattle.configuration.specs.Configuration.{weight};
+ghost use Rattle.hard.specs.Working.{hardIn, HardFits};
 ghost use Rattle.table.specs.Rows.{Table, tableAt, tableBefore, tableAfter, linesOf, Fits};
-ghost use Rattle.derivation.specs.Derivation.{claimFits, onMode, onTerm, onChoice, onStep, onClaim};
-ghost use Rattle.derivation.specs.Held.{progressIn, passed, closing, Held, Usable, Does};
+ghost use Rattle.derivation.specs.Derivation.{claimFits, onMode, onTerm, onChoice, onStep, onHard, onClaim};
+ghost use Rattle.derivation.specs.Held.{progressIn, passed, closing, Held, Usable, stepAsked, Does};
 
 // A refused record.
 pub fn refused(p: Progress, reason: Reason) -> Recorded
@@ -47,7 +51,17 @@ fn is_going(p: Progress) -> bool
     !p.closed
 }
 
-// Whether, besides, neither f is set nor the work polynomial has a term.
+// Whether, besides, f is set.
+fn can_step(p: Progress) -> bool
+    ensures { λ r. ⌜ r ≡ ((p .started && not (p .closed)) && p .chosen) ⌝ }
+{
+    if !is_going(p) {
+        return false;
+    }
+    p.chosen
+}
+
+// Whether the mode has come and the claim has not, and neither f is set nor the work polynomial has a term.
 fn is_idle(p: Progress) -> bool
     ensures { λ r. ⌜ r ≡ ((p .started && not (p .closed)) && (not (p .chosen) && eqb (p .work) (length ZERO))) ⌝ }
 {
@@ -152,47 +166,39 @@ pub fn on_choice(p: Progress, first: &mut [u32], work: &[u32]) -> Recorded
     accepted(p, 1, true, count, Polynomial::ZERO.count, p.lines, p.degree)
 }
 
-// S, P: a step of f with the work polynomial; both are cleared.
-pub fn on_step(
-    bytes: &[u8],
+// Takes the step that a record of so many bytes asks for, of f with the work polynomial; both are cleared, and the lines that it
+// leaves count for the degree. It is for `on_step` and `on_hard`.
+fn taken(
     p: Progress,
     first: &[u32],
     work: &[u32],
+    hard: &[u32],
     order: &mut [u64],
     terms: &mut [u32],
     weights: &mut [i64],
     counts: &mut [u32],
-    rule: Rule,
+    asked: Move,
+    size: usize,
 ) -> Recorded
     requires { let t = tableAt (p .lines) order terms weights counts in let fs = now first in let us = now work in
-        ⌜ (p .at < length (now bytes)) × Held p fs us t × Usable (progressIn p fs us t .state) ⌝ }
+        ⌜ Held p fs us t × Usable (hardIn (now hard)) (progressIn p fs us t .state) × HardFits (now hard)
+        × (0 < size) × (p .at + size < 18446744073709551616) ⌝ }
     ensures { λ r. let fs = now (first .entry) in let us = now (work .entry) in let t = tableBefore (p .lines) order terms weights counts in
-        ⌜ Does (onStep rule (now (bytes .entry))) p fs us t r fs us (tableAfter (r .progress .lines) order terms weights counts) ⌝ }
+        let on = stepAsked (hardIn (now (hard .entry))) asked size in
+        ⌜ Does on p fs us t r fs us (tableAfter (r .progress .lines) order terms weights counts) ⌝ }
 {
-    if !is_going(p) {
-        return refused(p, Reason::Misplaced);
-    }
-    if !p.chosen {
-        return refused(p, Reason::Misplaced);
-    }
-    let body = p.at + 1;
-    let Amount::Whole(amount) = read_amount(bytes, body) else {
-        return refused(p, Reason::CutShort);
-    };
     let m = p.first;
     let n = p.work;
-    let mode = p.mode;
     let stepped = step(
         p.lines,
         order,
         terms,
         weights,
         counts,
-        rule,
-        mode,
+        hard,
         &first[..m],
         &work[..n],
-        amount,
+        asked,
     );
     let objection = stepped.objection;
     if let Objection::Found(reason) = objection {
@@ -201,7 +207,92 @@ pub fn on_step(
     let left = stepped.lines;
     let degree = largest_degree(p.degree, left, order);
     let cleared = Polynomial::ZERO.count;
-    accepted(p, 9, false, cleared, cleared, left, degree)
+    accepted(p, size, false, cleared, cleared, left, degree)
+}
+
+// S, P: a step of f with the work polynomial.
+pub fn on_step(
+    bytes: &[u8],
+    p: Progress,
+    first: &[u32],
+    work: &[u32],
+    hard: &[u32],
+    order: &mut [u64],
+    terms: &mut [u32],
+    weights: &mut [i64],
+    counts: &mut [u32],
+    rule: Rule,
+) -> Recorded
+    requires { let t = tableAt (p .lines) order terms weights counts in let fs = now first in let us = now work in
+        ⌜ (p .at < length (now bytes)) × Held p fs us t × Usable (hardIn (now hard)) (progressIn p fs us t .state) × HardFits (now hard) ⌝ }
+    ensures { λ r. let fs = now (first .entry) in let us = now (work .entry) in let t = tableBefore (p .lines) order terms weights counts in
+        let on = onStep (hardIn (now (hard .entry))) rule (now (bytes .entry)) in
+        ⌜ Does on p fs us t r fs us (tableAfter (r .progress .lines) order terms weights counts) ⌝ }
+{
+    if !can_step(p) {
+        return refused(p, Reason::Misplaced);
+    }
+    let Amount::Whole(amount) = read_amount(bytes, p.at + 1) else {
+        return refused(p, Reason::CutShort);
+    };
+    let mode = p.mode;
+    let asked = Move { rule, mode, amount };
+    taken(
+        p,
+        first,
+        work,
+        hard,
+        order,
+        terms,
+        weights,
+        counts,
+        asked,
+        9,
+    )
+}
+
+// E: a hard step of f with the work polynomial; the body is the number of a hard polynomial and the amount.
+pub fn on_hard(
+    bytes: &[u8],
+    p: Progress,
+    first: &[u32],
+    work: &[u32],
+    hard: &[u32],
+    order: &mut [u64],
+    terms: &mut [u32],
+    weights: &mut [i64],
+    counts: &mut [u32],
+) -> Recorded
+    requires { let t = tableAt (p .lines) order terms weights counts in let fs = now first in let us = now work in
+        ⌜ (p .at < length (now bytes)) × Held p fs us t × Usable (hardIn (now hard)) (progressIn p fs us t .state) × HardFits (now hard) ⌝ }
+    ensures { λ r. let fs = now (first .entry) in let us = now (work .entry) in let t = tableBefore (p .lines) order terms weights counts in
+        let on = onHard (hardIn (now (hard .entry))) (now (bytes .entry)) in
+        ⌜ Does on p fs us t r fs us (tableAfter (r .progress .lines) order terms weights counts) ⌝ }
+{
+    if !can_step(p) {
+        return refused(p, Reason::Misplaced);
+    }
+    let Byte::Whole(number) = read_byte(bytes, p.at + 1) else {
+        return refused(p, Reason::CutShort);
+    };
+    let Amount::Whole(amount) = read_amount(bytes, p.at + 2) else {
+        return refused(p, Reason::CutShort);
+    };
+    let mode = p.mode;
+    let rule = Rule::Hard(number as u32);
+    let asked = Move { rule, mode, amount };
+    taken(
+        p,
+        first,
+        work,
+        hard,
+        order,
+        terms,
+        weights,
+        counts,
+        asked,
+        10,
+    )
 }
 
 // Whether a claim is from 0 to 10^12.

@@ -7,6 +7,7 @@ use calculus::Rule;
 use degree::largest_degree;
 use entry::on_choice;
 use entry::on_claim;
+use entry::on_hard;
 use entry::on_mode;
 use entry::on_step;
 use entry::on_term;
@@ -22,6 +23,8 @@ ghost use lib.ListN.{length};
 ghost use Rattle.refusal.specs.Refusal.{numbered};
 ghost use Rattle.refusal.specs.Outcome.{nothing, refusedFor};
 ghost use Rattle.configuration.specs.Configuration.{isConfiguration};
+ghost use Rattle.hard.specs.Hard.{isHardList};
+ghost use Rattle.hard.specs.Working.{hardIn, HardFits};
 ghost use Rattle.table.specs.Rows.{tableAt, tableBefore, tableAfter, linesOf, Fits, madeIn};
 ghost use Rattle.walk.specs.Walk.{verdict};
 ghost use Rattle.derivation.specs.Derivation.{onRecord, checkDerivation, toldOfCheck};
@@ -63,12 +66,13 @@ pub struct Recorded {
     pub objection: Objection,
 }
 
-// What a record's letter says: a mode, a term, the choice of f, a step, the claim, or none of these.
+// What a record's letter says: a mode, a term, the choice of f, a step, a hard step, the claim, or none of these.
 enum Kind {
     Start(Mode),
     Term,
     Choice,
     Step(Rule),
+    Hard,
     Claim,
     Unknown,
 }
@@ -82,6 +86,7 @@ fn kind_of(letter: u8) -> Kind
         b'K' => Kind::Choice,
         b'S' => Kind::Step(Rule::Sum),
         b'P' => Kind::Step(Rule::Prod),
+        b'E' => Kind::Hard,
         b'B' => Kind::Claim,
         b'N' => Kind::Start(Mode::Plain),
         b'Z' => Kind::Start(Mode::Signed),
@@ -96,14 +101,16 @@ fn on_record(
     p: Progress,
     first: &mut [u32],
     work: &mut [u32],
+    hard: &[u32],
     order: &mut [u64],
     terms: &mut [u32],
     weights: &mut [i64],
     counts: &mut [u32],
 ) -> Recorded
     requires { let t = tableAt (p .lines) order terms weights counts in let fs = now first in let us = now work in
-        ⌜ (p .at < length (now bytes)) × Held p fs us t × Usable (progressIn p fs us t .state) ⌝ }
-    ensures { λ r. let on = onRecord variables (now (bytes .entry)) in let u = tableAfter (r .progress .lines) order terms weights counts in
+        ⌜ (p .at < length (now bytes)) × Held p fs us t × Usable (hardIn (now hard)) (progressIn p fs us t .state) × HardFits (now hard) ⌝ }
+    ensures { λ r. let on = onRecord variables (hardIn (now (hard .entry))) (now (bytes .entry)) in
+        let u = tableAfter (r .progress .lines) order terms weights counts in
         ⌜ Does on p (now (first .entry)) (now (work .entry)) (tableBefore (p .lines) order terms weights counts) r (now (first .exit)) (now (work .exit)) u ⌝ }
 {
     let at = p.at;
@@ -111,7 +118,19 @@ fn on_record(
     match kind {
         Kind::Term => on_term(variables, bytes, p, work),
         Kind::Choice => on_choice(p, first, work),
-        Kind::Step(rule) => on_step(bytes, p, first, work, order, terms, weights, counts, rule),
+        Kind::Step(rule) => on_step(
+            bytes,
+            p,
+            first,
+            work,
+            hard,
+            order,
+            terms,
+            weights,
+            counts,
+            rule,
+        ),
+        Kind::Hard => on_hard(bytes, p, first, work, hard, order, terms, weights, counts),
         Kind::Claim => on_claim(bytes, p, order, terms, weights, counts),
         Kind::Start(mode) => on_mode(p, mode),
         Kind::Unknown => refused(p, Reason::Misplaced),
@@ -151,20 +170,22 @@ fn opening(lines: usize, order: &[u64]) -> Progress
     }
 }
 
-// Checks the derivation that the bytes are, on the lines of a table: reads the records one after the other, up to the first that
-// is refused. It is for the crates `checker` and `report`.
+// Checks the derivation that the bytes are, on the lines of a table, where a hard list is lent: reads the records one after the
+// other, up to the first that is refused. It is for the crates `checker` and `report`.
 pub fn check_derivation(
     bytes: &[u8],
     variables: u32,
+    hard: &[u32],
     lines: usize,
     order: &mut [u64],
     terms: &mut [u32],
     weights: &mut [i64],
     counts: &mut [u32],
 ) -> Check
-    requires { let t = tableAt lines order terms weights counts in ⌜ Fits 128 t × T (isConfiguration variables (linesOf t)) ⌝ }
+    requires { let t = tableAt lines order terms weights counts in
+        ⌜ HardFits (now hard) × T (isHardList variables (hardIn (now hard))) × Fits 128 t × T (isConfiguration variables (linesOf t)) ⌝ }
     ensures made { λ r. ⌜ madeIn variables (tableAfter (r .lines) order terms weights counts) (toldOfCheck (r .answer))
-        ≡ checkDerivation (now (bytes .entry)) variables (linesOf (tableBefore lines order terms weights counts)) ⌝ }
+        ≡ checkDerivation (now (bytes .entry)) variables (hardIn (now (hard .entry))) (linesOf (tableBefore lines order terms weights counts)) ⌝ }
     ensures fits { λ r. ⌜ Fits 128 (tableAfter (r .lines) order terms weights counts) ⌝ }
 {
     let zero = Polynomial::ZERO;
@@ -178,6 +199,7 @@ pub fn check_derivation(
             p,
             &mut first,
             &mut work,
+            hard,
             order,
             terms,
             weights,
