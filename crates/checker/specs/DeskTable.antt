@@ -1,5 +1,5 @@
 -- The twelve starred rows of document 01's desk table, as one theorem. Each row speaks of the definitions that the promises of the open operations equate with: `clauseOf`
--- (Polynomial::clause), and of a lent memory `stepIn` and `checkIn`.
+-- (Polynomial::clause), and of what is lent `stepIn` and `checkIn`.
 use mathlib.Core.Path.{_≡_, refl}
 use mathlib.Core.List.{List, [], _∷_}
 use Prim.Native.Nat.{ℕ}
@@ -13,7 +13,9 @@ use Rattle.mask.specs.Mask.{unions}
 use Rattle.polynomial.specs.Polynomial.{ZERO, ONE, factors, clauseOf, orderOf}
 use Rattle.configuration.specs.Configuration.{Line, line, total, fold, add, addAll, negated, below, lineFits, linesFit, weightsFit, anyNegative}
 use Rattle.configuration.specs.Limits.{within}
-use Rattle.memory.specs.Memory.{Memory, imageOf, readLines, allTerms, entriesOf, alike}
+use Rattle.configuration.specs.Area.{zeros}
+use Rattle.hard.specs.Hard.{readHard, laidHard, hardImage, rowsFormed}
+use Rattle.memory.specs.Memory.{backToBack, readLines, allTerms, entriesOf, alike}
 use Rattle.calculus.specs.Calculus.{covers, step, directStep}
 use Rattle.calculus.specs.declared.Rule.the-variants.{Sum, Prod}
 use Rattle.calculus.specs.declared.Mode.the-variants.{Plain, Signed}
@@ -21,7 +23,7 @@ use Rattle.record.specs.Letters.{letterN, letterZ, letterB}
 use Rattle.record.specs.Record.{littleEndian}
 use Rattle.walk.specs.Walk.{walk, gathered}
 use Rattle.derivation.specs.Derivation.{onRecord, largest, degreeIn, derivationDegree, Confirmation, confirmed, checkDerivation}
-use Rattle.checker.specs.Checker.{Left, leftOf, done, stepUnder, checkUnder, stepIn, checkIn}
+use Rattle.checker.specs.Checker.{Lent, Left, leftOf, lentWith, done, stepUnder, checkUnder, stepIn, checkIn}
 
 -- ---- polynomials of the table
 abbrev x1 : List ℕ
@@ -33,9 +35,9 @@ x2 = 2 ∷ []
 abbrev x1x2 : List ℕ
 x1x2 = 3 ∷ []
 
--- two variables, and the lines in the written order
-abbrev holding : List Line → Memory
-holding L = imageOf 2 L
+-- two variables, the lines in the written order, and no hard polynomial
+abbrev holding : List Line → Lent
+holding L = lentWith backToBack 2 L (hardImage [])
 
 -- ---- what a step or a claim leaves
 abbrev makes : List Line → Left (Unit {0})
@@ -97,7 +99,7 @@ pub record DeskTable : Type 0 where
 
 -- ---- every row holds: all of it is computed
 pub desk-table : DeskTable
-unfolding factors normalBy toggleBy unions before ones below sorted orderOf linesFit lineFits weightsFit anyNegative total add fold addAll negated within covers step directStep littleEndian walk gathered onRecord largest degreeIn derivationDegree checkDerivation readLines allTerms entriesOf alike stepUnder checkUnder
+unfolding factors normalBy toggleBy unions before ones below sorted orderOf linesFit lineFits weightsFit anyNegative total add fold addAll negated within covers step directStep littleEndian walk gathered onRecord largest degreeIn derivationDegree checkDerivation readLines allTerms entriesOf alike zeros readHard laidHard rowsFormed stepUnder checkUnder
 desk-table = record {
   row1 = refl;
   row2 = refl;

@@ -1,8 +1,8 @@
 -- Document 02, Ask 10: "Prove that the old and new areas hold the same standing after any records and from there answer every operation alike." One theorem of document 01's layout
--- (`memory/specs/OldLayout.antt`) and that of code, over any list of operations, of any length, each given the memory that the one before it left.
+-- (`memory/specs/OldLayout.antt`) and that of code, over any list of operations, of any length, each given what the one before it left. The hard list lies alike beside both.
 use mathlib.Core.Path.{_≡_, refl, sym, ap, ap₂, subst, _∙_}
 use mathlib.Core.List.{List, [], _∷_}
-use Prim.Native.Nat.{ℕ}
+use Prim.Native.Nat.{ℕ, _+_}
 use lib.Dec.{T, leb}
 use lib.IntN.{ℤ}
 use lib.ListN.{length}
@@ -10,9 +10,11 @@ use Rattle.run.specs.BooleanLaws.{is-true}
 use Rattle.refusal.specs.Outcome.{Outcome, accepted, refused, unless, mapped, Told}
 use Rattle.configuration.specs.Configuration.{Line, isConfiguration}
 use Rattle.configuration.specs.Made.{Made}
-use Rattle.memory.specs.Memory.{Memory, Layout, backToBack, sized, standingUnder, imageUnder, wellFormedUnder, Faithful}
+use Rattle.hard.specs.Hard.{isHardList, HardArea, hardOf, hardImage, hardFormed}
+use Rattle.hard.specs.HardLaws.{formed-list}
+use Rattle.memory.specs.Memory.{Memory, Layout, backToBack, standingUnder, Faithful}
 use Rattle.memory.specs.OldLayout.{inRows}
-use Rattle.memory.specs.LayoutLaws.{image-well, well-image, well-configuration, well-sized}
+use Rattle.memory.specs.LayoutLaws.{well-image, well-configuration}
 use Rattle.memory.specs.MemoryLaws.{back-to-back}
 use Rattle.memory.specs.OldLayoutLaws.{in-rows}
 use Rattle.calculus.specs.Calculus.{directStep}
@@ -20,13 +22,14 @@ use Rattle.calculus.specs.CalculusLaws.{direct-keeps}
 use Rattle.calculus.specs.declared.Rule.{Rule}
 use Rattle.calculus.specs.declared.Mode.{Mode}
 use Rattle.problem.specs.Problem.{fileProblem}
-use Rattle.problem.specs.ProblemLaws.{filed-configuration}
+use Rattle.problem.specs.ProblemLaws.{filed-configuration, filed-hard}
 use Rattle.derivation.specs.Derivation.{Confirmation, checkDerivation}
 use Rattle.derivation.specs.DerivationLaws.{check-variables, check-configuration}
 use Rattle.listing.specs.Listing.{textOf}
-use Rattle.checker.specs.Checker.{Left, stepped, Written, writtenBy, fitting, leftBy, stepUnder, checkUnder, fileUnder, writeUnder}
-use Rattle.checker.specs.CheckerLaws.{step-well, check-well, write-well, file-sized}
+use Rattle.checker.specs.Checker.{Lent, lentSized, Left, stepped, Written, writtenBy, fitting, lentFormedUnder, lentWith, leftBy, stepUnder, checkUnder, fileUnder, writeUnder}
+use Rattle.checker.specs.CheckerLaws.{formed-memory, formed-hard, formed-sized, image-formed, step-well, check-well, write-well, file-sized}
 use Rattle.checker.specs.CostRule.{Call, stepping, checking}
+use Rattle.hard.specs.HardLaws as H
 
 -- ---- the statement
 -- any bytes; any call of one who writes derivations; a line of any number into an area of any bytes
@@ -42,132 +45,156 @@ Answer (calling (stepping r d f g w)) = Told (Unit {0})
 Answer (calling (checking s)) = Told Confirmation
 Answer (writing i area) = Written
 
-abbrev pub answerUnder : (l : Layout) (o : Operation) → Memory → Answer o
+abbrev pub answerUnder : (l : Layout) (o : Operation) → Lent → Answer o
 answerUnder l (filing s) m = fileUnder l s m .told
 answerUnder l (calling (stepping r d f g w)) m = stepUnder l r d f g w m .told
 answerUnder l (calling (checking s)) m = checkUnder l s m .told
 answerUnder l (writing i area) m = writeUnder l i m area
 
-abbrev pub memoryUnder : Layout → Operation → Memory → Memory
-memoryUnder l (filing s) m = fileUnder l s m .memory
-memoryUnder l (calling (stepping r d f g w)) m = stepUnder l r d f g w m .memory
-memoryUnder l (calling (checking s)) m = checkUnder l s m .memory
-memoryUnder l (writing i area) m = m
+abbrev pub leftUnder : Layout → Operation → Lent → Lent
+leftUnder l (filing s) m = fileUnder l s m .lent
+leftUnder l (calling (stepping r d f g w)) m = stepUnder l r d f g w m .lent
+leftUnder l (calling (checking s)) m = checkUnder l s m .lent
+leftUnder l (writing i area) m = m
 
--- a memory is well formed in a layout, and holds the lines L over n variables
-pub record HoldsIn (l : Layout) (n : ℕ) (L : List Line) (m : Memory) : Type 0 where
-  pub well : T (wellFormedUnder l m)
-  pub variables : m .variables ≡ n
-  pub lines : standingUnder l m ≡ L
+-- what is lent is well formed in a layout, and holds the lines L over n variables and the hard list's area a
+pub record HoldsIn (l : Layout) (n : ℕ) (L : List Line) (a : HardArea) (m : Lent) : Type 0 where
+  pub well : T (lentFormedUnder l m)
+  pub variables : m .memory .variables ≡ n
+  pub lines : standingUnder l (m .memory) ≡ L
+  pub hard : m .hard ≡ a
 
--- two memories, each in its layout, hold one configuration
-pub record HoldOne (a b : Layout) (m k : Memory) : Type 0 where
+-- two that are lent, each in its layout, hold one configuration and one hard list
+pub record HoldOne (a b : Layout) (m k : Lent) : Type 0 where
   pub variables : ℕ
   pub lines : List Line
-  pub first : HoldsIn a variables lines m
-  pub second : HoldsIn b variables lines k
+  pub hard : HardArea
+  pub first : HoldsIn a variables lines hard m
+  pub second : HoldsIn b variables lines hard k
 
 -- an operation answers alike on both, and what it leaves holds one configuration again
-abbrev pub Alike : Layout → Layout → Memory → Memory → Operation → Type 0
-Alike a b m k o = (answerUnder a o m ≡ answerUnder b o k) × HoldOne a b (memoryUnder a o m) (memoryUnder b o k)
+abbrev pub Alike : Layout → Layout → Lent → Lent → Operation → Type 0
+Alike a b m k o = (answerUnder a o m ≡ answerUnder b o k) × HoldOne a b (leftUnder a o m) (leftUnder b o k)
 
-abbrev pub AllAlike : Layout → Layout → Memory → Memory → List Operation → Type 0
+abbrev pub AllAlike : Layout → Layout → Lent → Lent → List Operation → Type 0
 AllAlike a b m k [] = Unit {0}
-AllAlike a b m k (o ∷ os) = Alike a b m k o × AllAlike a b (memoryUnder a o m) (memoryUnder b o k) os
+AllAlike a b m k (o ∷ os) = Alike a b m k o × AllAlike a b (leftUnder a o m) (leftUnder b o k) os
 
 pub record OneStanding (a b : Layout) : Type 0 where
-  -- each configuration is held by its image in either layout: no line, no term and no order is lost
-  pub images : (n : ℕ) (L : List Line) → T (isConfiguration n L) → HoldsIn a n L (imageUnder a n L) × HoldsIn b n L (imageUnder b n L)
+  -- each configuration is held by its image in either layout, beside any hard list: no line, no term and no order is lost
+  pub images : (n : ℕ) (L : List Line) (x : HardArea) → T (isConfiguration n L) → T (hardFormed n x) → HoldsIn a n L x (lentWith a n L x) × HoldsIn b n L x (lentWith b n L x)
   -- two filings of the same bytes, in areas of the right lengths that hold anything
-  pub filings : (s : List ℕ) (m k : Memory) → T (sized m) → T (sized k) → Alike a b m k (filing s)
-  -- all operations on two memories that hold one configuration
-  pub operations : (m k : Memory) → HoldOne a b m k → (os : List Operation) → AllAlike a b m k os
+  pub filings : (s : List ℕ) (m k : Lent) → T (lentSized m) → T (lentSized k) → Alike a b m k (filing s)
+  -- all operations on two that hold one configuration and one hard list
+  pub operations : (m k : Lent) → HoldOne a b m k → (os : List Operation) → AllAlike a b m k os
 
 -- ---- in one layout
 module _ {l : Layout} (q : Faithful l) where
-  image-held : (n : ℕ) (L : List Line) → T (isConfiguration n L) → HoldsIn l n L (imageUnder l n L)
-  image-held n L h = record { well = image-well l q n L h; variables = refl; lines = q .back n L h }
+  image-held : (n : ℕ) (L : List Line) (x : HardArea) → T (isConfiguration n L) → T (hardFormed n x) → HoldsIn l n L x (lentWith l n L x)
+  image-held n L x h k = record { well = image-formed q n L x h k; variables = refl; lines = q .back n L h; hard = refl }
 
-  module _ {n : ℕ} {L : List Line} {m : Memory} (h : HoldsIn l n L m) where
+  module _ {n : ℕ} {L : List Line} {x : HardArea} {m : Lent} (h : HoldsIn l n L x m) where
+    -- an operation on the variables, the lines and the hard list that are held
+    held-at : {A : Type 0} (op : ℕ → List Line → HardArea → A) → op (m .memory .variables) (standingUnder l (m .memory)) (m .hard) ≡ op n L x
+    held-at op = ap₂ (λ (i : ℕ) (M : List Line). op i M (m .hard)) (h .variables) (h .lines) ∙ ap (op n L) (h .hard)
+
     held-configuration : T (isConfiguration n L)
     held-configuration =
-        subst (λ (i : ℕ). T (isConfiguration i L)) (h .variables) (subst (λ (M : List Line). T (isConfiguration (m .variables) M)) (h .lines) (well-configuration l m (h .well)))
+        subst (λ (i : ℕ). T (isConfiguration i L)) (h .variables)
+        (subst (λ (M : List Line). T (isConfiguration (m .memory .variables) M)) (h .lines) (well-configuration l (m .memory) (formed-memory l m (h .well))))
 
-    -- an operation on the lines that are held
-    held-at : {A : Type 0} (op : ℕ → List Line → A) → op (m .variables) (standingUnder l m) ≡ op n L
-    held-at op = ap₂ op (h .variables) (h .lines)
+    held-formed : T (hardFormed n x)
+    held-formed = subst (λ (i : ℕ). T (hardFormed i x)) (h .variables) (subst (λ (y : HardArea). T (hardFormed (m .memory .variables) y)) (h .hard) (formed-hard l m (h .well)))
 
-    held-lines : m .lines ≡ length L
-    held-lines = ap (λ (k : Memory). k .lines) (well-image l m (h .well)) ∙ ap length (h .lines)
+    held-lines : m .hard .number + m .memory .lines ≡ x .number + length L
+    held-lines = ap₂ _+_ (ap (λ (y : HardArea). y .number) (h .hard)) (ap (λ (k : Memory). k .lines) (well-image l (m .memory) (formed-memory l m (h .well))) ∙ ap length (h .lines))
 
-    write-held : (i : ℕ) (area : List ℕ) → writeUnder l i m area ≡ writtenBy area (unless (leb i (length L)) 17 (fitting area (textOf i n L)))
+    write-held : (i : ℕ) (area : List ℕ) → writeUnder l i m area ≡ writtenBy area (unless (leb i (x .number + length L)) 17 (fitting area (textOf i n (hardOf x) L)))
     write-held i area =
-        write-well q i m area (h .well) ∙ ap (λ (k : ℕ). writtenBy area (unless (leb i k) 17 (fitting area (textOf i (m .variables) (standingUnder l m))))) held-lines
-        ∙ held-at (λ v M. writtenBy area (unless (leb i (length L)) 17 (fitting area (textOf i v M))))
+        write-well q i m area (h .well)
+        ∙ ap (λ (k : ℕ). writtenBy area (unless (leb i k) 17 (fitting area (textOf i (m .memory .variables) (hardOf (m .hard)) (standingUnder l (m .memory)))))) held-lines
+        ∙ held-at (λ v M y. writtenBy area (unless (leb i (x .number + length L)) 17 (fitting area (textOf i v (hardOf y) M))))
 
 -- ---- in two
--- what an outcome makes can be held
-abbrev Keeps : {A : Type 0} → Outcome (Made A) → Type 0
-Keeps (accepted x) = T (isConfiguration (x .variables) (x .lines))
-Keeps (refused x) = Unit {0}
+-- what an outcome makes can be held, over n variables
+abbrev Keeps : {A : Type 0} → ℕ → Outcome (Made A) → Type 0
+Keeps n (accepted y) = (y .variables ≡ n) × T (isConfiguration n (y .lines))
+Keeps n (refused r) = Unit {0}
 
 module _ {a b : Layout} (p : Faithful a) (q : Faithful b) where
-  both-held : (n : ℕ) (L : List Line) → T (isConfiguration n L) → HoldOne a b (imageUnder a n L) (imageUnder b n L)
-  both-held n L h = record { variables = n; lines = L; first = image-held p n L h; second = image-held q n L h }
+  both-held : (n : ℕ) (L : List Line) (x : HardArea) → T (isConfiguration n L) → T (hardFormed n x) → HoldOne a b (lentWith a n L x) (lentWith b n L x)
+  both-held n L x h k = record { variables = n; lines = L; hard = x; first = image-held p n L x h k; second = image-held q n L x h k }
+
+  -- with the same variables and the same hard list, spelt otherwise
+  held-beside : {n i : ℕ} (N : List Line) {x y z : HardArea} → i ≡ n → x ≡ z → y ≡ z → HoldOne a b (lentWith a n N z) (lentWith b n N z) → HoldOne a b (lentWith a i N x) (lentWith b i N y)
+  held-beside {n} {i} N {x} {y} {z} e u v h =
+      subst (λ (j : ℕ). HoldOne a b (lentWith a j N x) (lentWith b j N y)) (sym e)
+      (subst (λ (t : HardArea). HoldOne a b (lentWith a n N t) (lentWith b n N y)) (sym u) (subst (λ (t : HardArea). HoldOne a b (lentWith a n N z) (lentWith b n N t)) (sym v) h))
 
   -- what an operation tells and leaves
   abbrev SameLeft : {A : Type 0} → Left A → Left A → Type 0
-  SameLeft x y = (x .told ≡ y .told) × HoldOne a b (x .memory) (y .memory)
+  SameLeft x y = (x .told ≡ y .told) × HoldOne a b (x .lent) (y .lent)
 
-  filings-alike : (s : List ℕ) (m k : Memory) → T (sized m) → T (sized k) → SameLeft (fileUnder a s m) (fileUnder b s k)
+  filings-alike : (s : List ℕ) (m k : Lent) → T (lentSized m) → T (lentSized k) → SameLeft (fileUnder a s m) (fileUnder b s k)
   filings-alike s m k h i =
-      rw (file-sized a s m (is-true (sized m) h), file-sized b s k (is-true (sized k) i)) (refl, both-held (fileProblem s .variables) (fileProblem s .lines) (filed-configuration s))
+      let y = fileProblem s in
+      rw (file-sized a s m (is-true (lentSized m) h), file-sized b s k (is-true (lentSized k) i))
+      (refl, both-held (y .variables) (y .lines) (hardImage (y .hard)) (filed-configuration s) (H.image-formed (y .variables) (y .hard) (filed-hard s)))
 
-  module _ (m k : Memory) (h : HoldOne a b m k) where
+  module _ (m k : Lent) (h : HoldOne a b m k) where
     abbrev n : ℕ
     n = h .variables
 
     abbrev L : List Line
     L = h .lines
 
+    abbrev J : List (List ℕ)
+    J = hardOf (h .hard)
+
     is-configuration : T (isConfiguration n L)
     is-configuration = held-configuration p (h .first)
 
-    outcome-alike : {A : Type 0} (o : Outcome (Made A)) → Keeps o → SameLeft (leftBy a m o) (leftBy b k o)
-    outcome-alike (accepted x) c = (refl, both-held (x .variables) (x .lines) c)
-    outcome-alike (refused x) c = (refl, h)
+    is-formed : T (hardFormed n (h .hard))
+    is-formed = held-formed p (h .first)
 
-    core-alike : {A : Type 0} (op : ℕ → List Line → Outcome (Made A)) → Keeps (op n L)
-        → SameLeft (leftBy a m (op (m .variables) (standingUnder a m))) (leftBy b k (op (k .variables) (standingUnder b k)))
-    core-alike op c = rw (held-at p (h .first) op, held-at q (h .second) op) (outcome-alike (op n L) c)
+    is-list : T (isHardList n J)
+    is-list = formed-list n (h .hard) is-formed
+
+    outcome-alike : {A : Type 0} (o : Outcome (Made A)) → Keeps n o → SameLeft (leftBy a m o) (leftBy b k o)
+    outcome-alike (accepted y) c = (refl, held-beside (y .lines) (c .0) (h .first .hard) (h .second .hard) (both-held n (y .lines) (h .hard) (c .1) is-formed))
+    outcome-alike (refused r) c = (refl, h)
+
+    core-alike : {A : Type 0} (op : ℕ → List Line → HardArea → Outcome (Made A)) → Keeps n (op n L (h .hard))
+        → SameLeft (leftBy a m (op (m .memory .variables) (standingUnder a (m .memory)) (m .hard))) (leftBy b k (op (k .memory .variables) (standingUnder b (k .memory)) (k .hard)))
+    core-alike op c = rw (held-at p (h .first) op, held-at q (h .second) op) (outcome-alike (op n L (h .hard)) c)
 
     step-alike : (r : Rule) (d : Mode) (f g : List ℕ) (w : ℤ) → SameLeft (stepUnder a r d f g w m) (stepUnder b r d f g w k)
     step-alike r d f g w =
         rw (step-well p r d f g w m (h .first .well), step-well q r d f g w k (h .second .well))
-        (core-alike (λ i M. mapped (stepped i) (directStep r d f g w i M)) (go (directStep r d f g w n L) refl))
+        (core-alike (λ i M y. mapped (stepped i) (directStep (hardOf y) r d f g w i M)) (go (directStep J r d f g w n L) refl))
       where
-        go : (o : Outcome (List Line)) → directStep r d f g w n L ≡ o → Keeps (mapped (stepped n) o)
-        go (accepted N) e = direct-keeps r d f g w n L N e is-configuration
-        go (refused x) e = tt
+        go : (o : Outcome (List Line)) → directStep J r d f g w n L ≡ o → Keeps n (mapped (stepped n) o)
+        go (accepted N) e = (refl, direct-keeps J r d f g w n L N e is-list is-configuration)
+        go (refused y) e = tt
 
     check-alike : (s : List ℕ) → SameLeft (checkUnder a s m) (checkUnder b s k)
     check-alike s =
         rw (check-well p s m (h .first .well), check-well q s k (h .second .well))
-        (core-alike (λ i M. accepted (checkDerivation s i M)) (rw (check-variables s n L) (check-configuration s n L is-configuration)))
+        (core-alike (λ i M y. accepted (checkDerivation s i (hardOf y) M)) (check-variables s n J L, check-configuration s n J L is-list is-configuration))
 
     operation-alike : (o : Operation) → Alike a b m k o
-    operation-alike (filing s) = filings-alike s m k (well-sized a p m (h .first .well)) (well-sized b q k (h .second .well))
+    operation-alike (filing s) = filings-alike s m k (formed-sized p m (h .first .well)) (formed-sized q k (h .second .well))
     operation-alike (calling (stepping r d f g w)) = step-alike r d f g w
     operation-alike (calling (checking s)) = check-alike s
     operation-alike (writing i area) = (write-held p (h .first) i area ∙ sym (write-held q (h .second) i area), h)
 
-  all-alike : (m k : Memory) → HoldOne a b m k → (os : List Operation) → AllAlike a b m k os
+  all-alike : (m k : Lent) → HoldOne a b m k → (os : List Operation) → AllAlike a b m k os
   all-alike m k h [] = tt
-  all-alike m k h (o ∷ os) = let e : Alike a b m k o = operation-alike m k h o in (e, all-alike (memoryUnder a o m) (memoryUnder b o k) (e .1) os)
+  all-alike m k h (o ∷ os) = let e : Alike a b m k o = operation-alike m k h o in (e, all-alike (leftUnder a o m) (leftUnder b o k) (e .1) os)
 
   one-standing : OneStanding a b
   one-standing = record {
-    images = λ n L h. (image-held p n L h, image-held q n L h);
+    images = λ n L x h k. (image-held p n L x h k, image-held q n L x h k);
     filings = filings-alike;
     operations = all-alike;
   }

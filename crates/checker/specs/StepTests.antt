@@ -9,25 +9,26 @@ use Rattle.refusal.specs.Outcome.{Outcome, accepted, refused, mapped, Test, ref
 use Rattle.refusal.specs.Tests.{AllPassed, FirstFailed, Decided}
 use Rattle.refusal.specs.TestsLaws.{decided}
 use Rattle.configuration.specs.Configuration.{Line, addAll}
-use Rattle.memory.specs.Memory.{Memory, backToBack, standingOf, imageOf}
+use Rattle.hard.specs.Hard.{hardOf}
+use Rattle.memory.specs.Memory.{backToBack, standingOf}
 use Rattle.calculus.specs.Calculus.{changes, directStep}
 use Rattle.calculus.specs.Tests.{directTests}
 use Rattle.calculus.specs.TestsLaws.{direct-tests}
 use Rattle.calculus.specs.declared.Rule.{Rule}
 use Rattle.calculus.specs.declared.Mode.{Mode}
-use Rattle.checker.specs.Checker.{memoryTests, admitted, Left, leftOf, leftBy, done, stepped, stepIn}
+use Rattle.checker.specs.Checker.{Lent, lentTests, admitted, Left, leftOf, lentWith, leftBy, done, stepped, stepIn}
 use Rattle.checker.specs.CheckerLaws.{not-refusal, same-refusal, step-admitted}
 
-module _ (r : Rule) (d : Mode) (f g : List ℕ) (w : ℤ) (m : Memory) where
+module _ (r : Rule) (d : Mode) (f g : List ℕ) (w : ℤ) (m : Lent) where
   abbrev tests : List Test
-  tests = memoryTests backToBack m ++ directTests r d f g w (m .variables) (standingOf m)
+  tests = lentTests backToBack m ++ directTests (hardOf (m .hard)) r d f g w (m .memory .variables) (standingOf (m .memory))
 
-  -- the lines with the changes of the rule, and the memory that has them
+  -- the lines with the changes of the rule, and what is lent once it has them
   abbrev foldedLines : List Line
-  foldedLines = addAll (changes r f g w) (standingOf m)
+  foldedLines = addAll (changes (hardOf (m .hard)) r f g w) (standingOf (m .memory))
 
-  abbrev folded : Memory
-  folded = imageOf (m .variables) foldedLines
+  abbrev folded : Lent
+  folded = lentWith backToBack (m .memory .variables) foldedLines (m .hard)
 
   pub record StepDecided : Type 0 where
     pub if-passed : AllPassed tests → stepIn r d f g w m ≡ leftOf folded done
@@ -36,14 +37,14 @@ module _ (r : Rule) (d : Mode) (f g : List ℕ) (w : ℤ) (m : Memory) where
     pub if-refused : (x : Refusal) → stepIn r d f g w m .told ≡ refusedAt 0 x → FirstFailed x tests
 
   abbrev judged : Outcome (List Line)
-  judged = admitted backToBack m (directStep r d f g w (m .variables) (standingOf m))
+  judged = admitted backToBack m (directStep (hardOf (m .hard)) r d f g w (m .memory .variables) (standingOf (m .memory)))
 
   abbrev onto : Outcome (List Line) → Left (Unit {0})
-  onto o = leftBy backToBack m (mapped (stepped (m .variables)) o)
+  onto o = leftBy backToBack m (mapped (stepped (m .memory .variables)) o)
 
   pub judged-decided : Decided tests foldedLines judged
   judged-decided =
-      subst (Decided tests foldedLines) (ap (admitted backToBack m) (direct-tests r d f g w (standingOf m) (m .variables))) (decided tests foldedLines)
+      subst (Decided tests foldedLines) (ap (admitted backToBack m) (direct-tests (hardOf (m .hard)) r d f g w (standingOf (m .memory)) (m .memory .variables))) (decided tests foldedLines)
 
   pub step-decided : StepDecided
   step-decided = record {

@@ -2,6 +2,7 @@
 use crate::Checked;
 use crate::admission::object;
 use derivation::CheckAnswer;
+use hard::gather;
 use memory::Entry;
 use memory::Head;
 use memory::close::close;
@@ -11,11 +12,15 @@ use refusal::Objection;
 use refusal::Reason;
 use table::order::fresh_order;
 ghost use mathlib.Core.Path.{_≡_};
+ghost use mathlib.Core.List.{List};
+ghost use Prim.Native.Nat.{ℕ};
 ghost use lib.Dec.{T};
 ghost use Rattle.refusal.specs.Outcome.{accepted};
 ghost use Rattle.derivation.specs.Derivation.{toldOfCheck, checkDerivation};
-ghost use Rattle.memory.specs.Memory.{backToBack, memoryAt, memoryBefore, memoryAfter, standingOf, wellFormed};
-ghost use Rattle.checker.specs.Checker.{leftOf, leftBy, checkIn};
+ghost use Rattle.hard.specs.Hard.{isHardList};
+ghost use Rattle.hard.specs.Working.{hardIn, HardFits};
+ghost use Rattle.memory.specs.Memory.{backToBack, memoryAt, memoryBefore, standingOf, wellFormed};
+ghost use Rattle.checker.specs.Checker.{lentOf, leftOf, leftBy, checkIn};
 
 // What a check leaves: the records of the lines, and the head with the answer.
 pub struct Done {
@@ -40,12 +45,15 @@ pub fn unfit(head: Head) -> Checked
     refused(head, Reason::WrongLength)
 }
 
-// The check on the lines of a well-formed memory. It is for `on_entries`, which has tested it.
-fn checked(bytes: &[u8], head: Head, terms: &mut [u32], entries: [Entry; 128]) -> Done
-    requires { ⌜ T (wellFormed (memoryAt head terms entries)) ⌝ }
+// The check on the lines of a well-formed memory, with the hard list in its working form. It is for `on_entries`, which has tested
+// what is lent.
+fn checked(bytes: &[u8], head: Head, terms: &mut [u32], entries: [Entry; 128], hard: &[u32]) -> Done
+    requires { let H = hardIn (now hard) in
+        ⌜ T (wellFormed (memoryAt head terms entries)) × HardFits (now hard) × T (isHardList (head .variables) H) ⌝ }
     ensures { λ r. let m = memoryBefore head terms entries in
-        ⌜ leftOf (memoryAfter (r .checked .head) terms (r .entries)) (toldOfCheck (r .checked .answer))
-        ≡ leftBy backToBack m (accepted (checkDerivation (now (bytes .entry)) (m .variables) (standingOf m))) ⌝ }
+        let x = checkDerivation (now (bytes .entry)) (m .variables) (hardIn (now (hard .entry))) (standingOf m) in
+        ⌜ ((cs ps : List ℕ) → leftOf (lentOf (r .checked .head) (now (terms .exit)) (r .entries) cs ps) (toldOfCheck (r .checked .answer))
+        ≡ leftBy backToBack (lentOf head (now (terms .entry)) entries cs ps) (accepted x)) ⌝ }
 {
     let mut order = fresh_order();
     let mut rows = [0u32; 8192];
@@ -64,6 +72,7 @@ fn checked(bytes: &[u8], head: Head, terms: &mut [u32], entries: [Entry; 128]) -
     let done = derivation::check_derivation(
         bytes,
         variables,
+        hard,
         held,
         &mut order,
         &mut rows,
@@ -73,20 +82,34 @@ fn checked(bytes: &[u8], head: Head, terms: &mut [u32], entries: [Entry; 128]) -
     let used = used_by(entries);
     let entries = close(done.lines, &order, &rows, &weights, &counts, used, terms);
     let lines = done.lines as u32;
-    let head = Head { variables, lines };
+    let head = Head {
+        variables,
+        lines,
+        hard: head.hard,
+    };
     let answer = done.answer;
     let checked = Checked { head, answer };
     Done { entries, checked }
 }
 
 // Checks the derivation that the bytes are.
-pub fn on_entries(bytes: &[u8], head: Head, terms: &mut [u32], entries: [Entry; 128]) -> Done
-    ensures { λ r. ⌜ leftOf (memoryAfter (r .checked .head) terms (r .entries)) (toldOfCheck (r .checked .answer))
-        ≡ checkIn (now (bytes .entry)) (memoryBefore head terms entries) ⌝ }
+pub fn on_entries(
+    bytes: &[u8],
+    head: Head,
+    terms: &mut [u32],
+    entries: [Entry; 128],
+    counts: &[u32],
+    places: &[u32],
+) -> Done
+    ensures { λ r. let cs = now (counts .entry) in let ps = now (places .entry) in
+        ⌜ leftOf (lentOf (r .checked .head) (now (terms .exit)) (r .entries) cs ps) (toldOfCheck (r .checked .answer))
+        ≡ checkIn (now (bytes .entry)) (lentOf head (now (terms .entry)) entries cs ps) ⌝ }
 {
-    if let Objection::Found(reason) = object(head, terms, entries) {
+    if let Objection::Found(reason) = object(head, terms, entries, counts, places) {
         let checked = refused(head, reason);
         return Done { entries, checked };
     }
-    checked(bytes, head, terms, entries)
+    let mut hard = [0u32; 1041];
+    gather(head.hard, counts, places, &mut hard);
+    checked(bytes, head, terms, entries, &hard)
 }

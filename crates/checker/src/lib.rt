@@ -17,8 +17,8 @@ use refusal::Reason;
 ghost use mathlib.Core.Path.{_≡_};
 ghost use Rattle.problem.specs.Problem.{toldOfFiling};
 ghost use Rattle.derivation.specs.Derivation.{toldOfCheck};
-ghost use Rattle.checker.specs.Lent.{lentBefore, lentAfter};
-ghost use Rattle.checker.specs.Checker.{leftOf, lent, stepIn, checkIn, fileIn, writeIn, toldOfStep, toldOfLine};
+ghost use Rattle.checker.specs.Lent.{lentBefore, lentAfter, lentRead};
+ghost use Rattle.checker.specs.Checker.{noHead, leftOf, stepIn, checkIn, fileIn, writeIn, toldOfStep, toldOfLine};
 
 // What a step answers. A refusal names record 0, and its reason.
 pub enum StepAnswer {
@@ -55,49 +55,76 @@ pub fn take_step(
     head: Head,
     terms: &mut [u32],
     table: &mut [Entry],
+    counts: &[u32],
+    places: &[u32],
     rule: Rule,
     mode: Mode,
     f: &[u32],
     g: &[u32],
     amount: i64,
 ) -> Stepped
-    ensures { λ r. ⌜ leftOf (lentAfter (r .head) terms table) (toldOfStep (r .answer))
-        ≡ stepIn rule mode (now (f .entry)) (now (g .entry)) amount (lentBefore head terms table) ⌝ }
+    ensures { λ r. ⌜ leftOf (lentRead (r .head) terms table counts places) (toldOfStep (r .answer))
+        ≡ stepIn rule mode (now (f .entry)) (now (g .entry)) amount (lentBefore head terms table counts places) ⌝ }
 {
     if table.len() != 128 {
         return stepping::unfit(head);
     }
     let entries = load(table);
-    let done = stepping::on_entries(head, terms, entries, rule, mode, f, g, amount);
+    let done = stepping::on_entries(
+        head,
+        terms,
+        entries,
+        counts,
+        places,
+        rule,
+        mode,
+        f,
+        g,
+        amount,
+    );
     let left = done.entries;
     store(table, left);
     done.stepped
 }
 
 // Checks the derivation that the bytes are, in lent areas of any lengths and contents.
-pub fn check_derivation(bytes: &[u8], head: Head, terms: &mut [u32], table: &mut [Entry]) -> Checked
-    ensures { λ r. ⌜ leftOf (lentAfter (r .head) terms table) (toldOfCheck (r .answer)) ≡ checkIn (now (bytes .entry)) (lentBefore head terms table) ⌝ }
+pub fn check_derivation(
+    bytes: &[u8],
+    head: Head,
+    terms: &mut [u32],
+    table: &mut [Entry],
+    counts: &[u32],
+    places: &[u32],
+) -> Checked
+    ensures { λ r. ⌜ leftOf (lentRead (r .head) terms table counts places) (toldOfCheck (r .answer))
+        ≡ checkIn (now (bytes .entry)) (lentBefore head terms table counts places) ⌝ }
 {
     if table.len() != 128 {
         return checking::unfit(head);
     }
     let entries = load(table);
-    let done = checking::on_entries(bytes, head, terms, entries);
+    let done = checking::on_entries(bytes, head, terms, entries, counts, places);
     let left = done.entries;
     store(table, left);
     done.checked
 }
 
 // Files the problem that the bytes are, in lent areas of any lengths and contents.
-pub fn file_problem(bytes: &[u8], terms: &mut [u32], table: &mut [Entry]) -> Filed
-    ensures { λ r. ⌜ leftOf (lentAfter (r .head) terms table) (toldOfFiling (r .answer))
-        ≡ fileIn (now (bytes .entry)) (lent (now (terms .entry)) (now (table .entry))) ⌝ }
+pub fn file_problem(
+    bytes: &[u8],
+    terms: &mut [u32],
+    table: &mut [Entry],
+    counts: &mut [u32],
+    places: &mut [u32],
+) -> Filed
+    ensures { λ r. ⌜ leftOf (lentAfter (r .head) terms table counts places) (toldOfFiling (r .answer))
+        ≡ fileIn (now (bytes .entry)) (lentBefore noHead terms table counts places) ⌝ }
 {
     if table.len() != 128 {
         return filing::unfit();
     }
     let entries = load(table);
-    let done = filing::on_entries(bytes, terms, entries);
+    let done = filing::on_entries(bytes, terms, entries, counts, places);
     let left = done.entries;
     store(table, left);
     done.filed
@@ -109,13 +136,16 @@ pub fn write_line(
     head: Head,
     terms: &[u32],
     table: &[Entry],
+    counts: &[u32],
+    places: &[u32],
     number: usize,
 ) -> LineAnswer
-    ensures { λ r. ⌜ record { area = now (area .exit); told = toldOfLine r } ≡ writeIn number (lentBefore head terms table) (now (area .entry)) ⌝ }
+    ensures { λ r. ⌜ record { area = now (area .exit); told = toldOfLine r }
+        ≡ writeIn number (lentBefore head terms table counts places) (now (area .entry)) ⌝ }
 {
     if table.len() != 128 {
         return writing::unfit();
     }
     let entries = load(table);
-    writing::from_entries(area, head, terms, entries, number)
+    writing::from_entries(area, head, terms, entries, counts, places, number)
 }

@@ -24,7 +24,7 @@ pub fn close(
 ) -> [Entry; 128]
     requires { ⌜ Fits 128 (tableAt lines order rows weights counts) × ClearFrom used (now terms) ⌝ }
     ensures { λ r. let N = linesOf (tableBefore lines order rows weights counts) in
-        ⌜ ((n : ℕ) → memoryAfter (record { variables = n; lines = lines }) terms r ≡ imageOf n N) ⌝ }
+        ⌜ ((n k : ℕ) → memoryAfter (record { variables = n; lines = lines; hard = k }) terms r ≡ imageOf n N) ⌝ }
 {
     let mut entries = no_entries();
     let mut end: usize = 0;

@@ -6,10 +6,11 @@ pub mod entries;
 pub mod form;
 pub mod open;
 
-// The head of a configuration: how many variables the problem has, and how many lines are held.
+// The head of what is lent: how many variables the problem has, how many lines are held, and how many hard polynomials.
 pub struct Head {
     pub variables: u32,
     pub lines: u32,
+    pub hard: u32,
 }
 
 // The record of a line in the line table: its weight, and how many terms it has.

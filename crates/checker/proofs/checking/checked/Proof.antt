@@ -7,18 +7,19 @@ use denote.Ref.{now}
 use borrow.Author.Needs.{needs}
 use Rattle.refusal.specs.Outcome.{accepted}
 use Rattle.configuration.specs.Configuration.{Line, isConfiguration}
+use Rattle.hard.specs.Working.{hardIn}
 use Rattle.memory.specs.Memory.{Memory, memoryOf, backToBack}
 use Rattle.memory.specs.Places.{ClearFrom}
 use Rattle.memory.specs.LayoutLaws.{well-configuration}
 use Rattle.memory.specs.MemoryLaws.{well-clear}
 use Rattle.derivation.specs.Derivation.{checkDerivation, toldOfCheck}
-use Rattle.checker.specs.Checker.{leftBy}
+use Rattle.checker.specs.Checker.{lentOf, leftBy}
 use Rattle.checker.proofs.Outcomes.{closed}
 use Rattle.checker.proofs.checking.checked.Statement.{statement}
 use Rattle.checker.proofs.checking.checked.Tie as tie
 
-abbrev lent : tie.Start → Memory
-lent s = memoryOf (s .args .head) (now (s .args .terms)) (s .args .entries)
+abbrev memory : tie.Start → Memory
+memory s = memoryOf (s .args .head) (now (s .args .terms)) (s .args .entries)
 
 fresh-order-requires : tie.Need-fresh-order-requires
 fresh-order-requires c κs = search needs
@@ -52,9 +53,13 @@ slice-aggregate-check-derivation-4 c = search needs
 
 check-derivation-requires : tie.Need-check-derivation-requires
 check-derivation-requires c κs =
-    let s = c .before .before .before .before .before .before .before .before .before .before .before .before .before .before .before .before .before in
-    let o = c .before .before .before .before .before .before .before .before .«open» in
-    (o .ensures .1, subst (λ (L : List Line). T (isConfiguration (s .args .head .variables) L)) (sym (o .ensures .0)) (well-configuration backToBack (lent s) (s .pre)))
+    let s = c .before .before .before .before .before .before .before .before .before .before .before .before .before .before .before .before .before .before in
+    let o = c .before .before .before .before .before .before .before .before .«open» in (
+      s .pre .1,
+      s .pre .2,
+      o .ensures .1,
+      subst (λ (L : List Line). T (isConfiguration (s .args .head .variables) L)) (sym (o .ensures .0)) (well-configuration backToBack (memory s) (s .pre .0)),
+    )
 
 used-by-requires : tie.Need-used-by-requires
 used-by-requires c κs = search needs
@@ -73,9 +78,8 @@ slice-aggregate-close-4 c = search needs
 
 close-requires : tie.Need-close-requires
 close-requires c κs =
-    let s = c .before .before .before .before .before .before .before .before .before .before .before .before .before .before .before .before .before .before .before .before .before .before .before .before .before .before .before .before in
-    let u = c .before .before .before .before .before .used-by in
-    (c .before .before .before .before .before .before .before .before .before .before .check-derivation .ensures .1, subst (λ (n : ℕ). ClearFrom n (now (s .args .terms))) (sym (u .ensures)) (well-clear (lent s) (s .pre)))
+    let s = c .before .before .before .before .before .before .before .before .before .before .before .before .before .before .before .before .before .before .before .before .before .before .before .before .before .before .before .before .before in
+    (c .before .before .before .before .before .before .before .before .before .before .check-derivation .ensures .1, subst (λ (n : ℕ). ClearFrom n (now (s .args .terms))) (sym (c .before .before .before .before .before .used-by .ensures)) (well-clear (memory s) (s .pre .0)))
 
 cast-lines : tie.Need-cast-lines
 cast-lines c = search needs
@@ -84,13 +88,13 @@ same-length : tie.Need-same-length
 same-length c = search needs
 
 returns : tie.Need-returns
-returns c =
-    let s = c .before .before .before .before .before .before .before .before .before .before .before .before .before .before .before .before .before .before .before .before .before .before .before .before .before .before .before .before .before .before .before .before in
-    let n = s .args .head .variables in
-    let bytes = now (s .args .bytes) in
+returns c cs ps =
+    let s = c .before .before .before .before .before .before .before .before .before .before .before .before .before .before .before .before .before .before .before .before .before .before .before .before .before .before .before .before .before .before .before .before .before in
+    let a = s .args in
     let k = c .before .before .before .before .before .before .before .before .before .before .before .before .before .before .check-derivation in
-    closed n _ _ (toldOfCheck (k .result .answer)) _ (c .before .before .before .close .ensures n) (k .ensures .0)
-    ∙ ap (λ (L : List Line). leftBy backToBack (lent s) (accepted (checkDerivation bytes n L))) (c .before .before .before .before .before .before .before .before .before .before .before .before .before .before .before .before .before .before .before .before .before .before .before .«open» .ensures .0)
+    let x = lentOf (a .head) (now (a .terms)) (a .entries) cs ps in
+    closed (a .head .variables) _ (x .hard) _ (toldOfCheck (k .result .answer)) _ (c .before .before .before .close .ensures (a .head .variables) (a .head .hard)) (k .ensures .0)
+    ∙ ap (λ (L : List Line). leftBy backToBack x (accepted (checkDerivation (now (a .bytes)) (a .head .variables) (hardIn (now (a .hard))) L))) (c .before .before .before .before .before .before .before .before .before .before .before .before .before .before .before .before .before .before .before .before .before .before .before .«open» .ensures .0)
 
 pub checked-spec : {M : Type 1} → statement M
 checked-spec =

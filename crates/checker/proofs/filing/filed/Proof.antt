@@ -1,88 +1,64 @@
--- `filed` meets its contract: the records are read into a table that holds nothing, and its lines are written back.
-use mathlib.Core.Path.{sym, subst}
+-- `filed` meets its contract: the problem is filed, and its hard list written back.
+use mathlib.Core.Path.{_≡_, sym, ap, ap₂, _∙_}
 use mathlib.Core.List.{List}
 use Prim.Native.Nat.{ℕ}
-use lib.Dec.{lit≤}
-use lib.IntN.{ℤ, pos}
-use lib.ListN.{length-replicate, replicate}
+use lib.ListN.{length-replicate}
 use denote.Ref.{now}
 use borrow.Author.Needs.{needs}
-use Rattle.table.specs.Rows.{Fits, inTurn}
-use Rattle.table.specs.RowsLaws.{fresh-fits}
-use Rattle.memory.specs.MemoryLaws.{clear-past}
-use Rattle.problem.specs.Problem.{toldOfFiling}
-use Rattle.checker.proofs.Outcomes.{closed}
+use Rattle.hard.specs.Hard.{HardArea, hardImage}
+use Rattle.hard.specs.Working.{areaIn}
+use Rattle.hard.specs.WorkingLaws.{run-none, run-area}
+use Rattle.problem.specs.Problem.{fileProblem, toldOfFiling}
+use Rattle.problem.specs.ProblemLaws.{filed-hard}
+use Rattle.checker.specs.Checker.{lentOf, leftOf}
 use Rattle.checker.proofs.filing.filed.Statement.{statement}
 use Rattle.checker.proofs.filing.filed.Tie as tie
 
--- a table that holds nothing
-fresh : Fits 128 (record { lines = 0; order = inTurn 128 0; terms = replicate 8192 0; weights = replicate 128 (pos 0); counts = replicate 128 0 })
-fresh = fresh-fits 128 (replicate 8192 0) (replicate 128 (pos 0)) (replicate 128 0) (lit≤ tt) (length-replicate {A = ℕ} 8192 0) (length-replicate {A = ℤ} 128 (pos 0))
-    (length-replicate {A = ℕ} 128 0)
+-- the area that the run has, once the problem is filed
+area-made : (c : tie.After-lines-filed) → areaIn (c .lines-filed .last .1 .1 .0) ≡ hardImage (fileProblem (now (c .before .before .before .before .before .before .before .args .bytes)) .hard)
+area-made c =
+    let y = fileProblem (now (c .before .before .before .before .before .before .before .args .bytes)) in
+    ap areaIn (c .lines-filed .ensures .1) ∙ run-area (y .variables) (y .hard) (filed-hard (now (c .before .before .before .before .before .before .before .args .bytes)))
 
-fresh-order-requires : tie.Need-fresh-order-requires
-fresh-order-requires c κs = search needs
+slice-aggregate-lines-filed : tie.Need-slice-aggregate-lines-filed
+slice-aggregate-lines-filed c = search needs
 
-slice-aggregate-file-problem : tie.Need-slice-aggregate-file-problem
-slice-aggregate-file-problem c = search needs
+lines-filed-requires : tie.Need-lines-filed-requires
+lines-filed-requires c κs = (c .before .before .before .before .before .before .pre .0, sym run-none)
 
-slice-aggregate-file-problem-2 : tie.Need-slice-aggregate-file-problem-2
-slice-aggregate-file-problem-2 c = search needs
+slice-aggregate-scatter : tie.Need-slice-aggregate-scatter
+slice-aggregate-scatter c = search needs
 
-slice-aggregate-file-problem-3 : tie.Need-slice-aggregate-file-problem-3
-slice-aggregate-file-problem-3 c = search needs
-
-slice-aggregate-file-problem-4 : tie.Need-slice-aggregate-file-problem-4
-slice-aggregate-file-problem-4 c = search needs
-
-file-problem-requires : tie.Need-file-problem-requires
-file-problem-requires c κs =
-    subst (λ (is : List ℕ). Fits 128 (record { lines = 0; order = is; terms = replicate 8192 0; weights = replicate 128 (pos 0); counts = replicate 128 0 }))
-    (sym (c .before .before .before .before .fresh-order .ensures)) fresh
-
-slice-aggregate-close : tie.Need-slice-aggregate-close
-slice-aggregate-close c = search needs
-
-slice-aggregate-close-2 : tie.Need-slice-aggregate-close-2
-slice-aggregate-close-2 c = search needs
-
-slice-aggregate-close-3 : tie.Need-slice-aggregate-close-3
-slice-aggregate-close-3 c = search needs
-
-slice-aggregate-close-4 : tie.Need-slice-aggregate-close-4
-slice-aggregate-close-4 c = search needs
-
-close-requires : tie.Need-close-requires
-close-requires c κs =
-    let s = c .before .before .before .before .before .before .before .before .before .before .before .before .before .before .before .before .before in
-    (c .before .before .before .before .before .before .before .before .before .file-problem .ensures .1, clear-past (now (s .args .terms)) (s .pre))
-
-cast-lines : tie.Need-cast-lines
-cast-lines c = search needs
+scatter-requires : tie.Need-scatter-requires
+scatter-requires c κs = (c .before .before .before .before .before .before .lines-filed .kept .1 .1 .0 ∙ length-replicate {A = ℕ} 1041 0, c .before .before .before .before .before .before .before .before .before .before .before .before .before .pre .1, c .before .before .before .before .before .before .before .before .before .before .before .before .before .pre .2)
 
 same-length : tie.Need-same-length
 same-length c = search needs
 
+same-length-2 : tie.Need-same-length-2
+same-length-2 c = search needs
+
+same-length-3 : tie.Need-same-length-3
+same-length-3 c = search needs
+
 returns : tie.Need-returns
 returns c =
-    let k = c .before .before .before .before .before .before .before .before .before .before .before .before .before .file-problem in
-    closed (k .result .variables) _ _ (toldOfFiling (k .result .answer)) _ (c .before .before .before .close .ensures (k .result .variables)) (k .ensures .0)
+    let k = c .before .before .before .before .before .before .before .before .before .before .before .lines-filed in
+    let d = c .before .before .before .before .scatter in
+    let e = area-made (c .before .before .before .before .before .before .before .before .before .before .before) in
+    ap₂ (λ (cs ps : List ℕ). leftOf (lentOf (k .result .filed .head) (k .last .1 .0) (k .result .entries) cs ps) (toldOfFiling (k .result .filed .answer)))
+    (d .ensures .0 ∙ ap (λ (a : HardArea). a .counts) e) (d .ensures .1 ∙ ap (λ (a : HardArea). a .places) e)
+    ∙ k .ensures .0
 
 pub filed-spec : {M : Type 1} → statement M
 filed-spec =
     tie.close
     (tie.spec
-    fresh-order-requires
-    slice-aggregate-file-problem
-    slice-aggregate-file-problem-2
-    slice-aggregate-file-problem-3
-    slice-aggregate-file-problem-4
-    file-problem-requires
-    slice-aggregate-close
-    slice-aggregate-close-2
-    slice-aggregate-close-3
-    slice-aggregate-close-4
-    close-requires
-    cast-lines
+    slice-aggregate-lines-filed
+    lines-filed-requires
+    slice-aggregate-scatter
+    scatter-requires
     same-length
+    same-length-2
+    same-length-3
     returns)

@@ -14,6 +14,7 @@ use Rattle.refusal.specs.Outcome.{answered, refusedAt}
 use Rattle.configuration.specs.Configuration.{Line}
 use Rattle.table.specs.Rows.{Table, linesOf, Fits}
 use Rattle.table.specs.RowsLaws.{length-lines}
+use Rattle.hard.specs.Working.{hardIn}
 use Rattle.memory.specs.Memory.{Memory, memoryOf, standingOf, wellFormed, backToBack}
 use Rattle.memory.specs.LayoutLaws.{well-image}
 use Rattle.listing.specs.Listing.{textOf}
@@ -23,12 +24,12 @@ use Rattle.checker.specs.Checker.{writtenBy, fitting}
 use Rattle.checker.proofs.writing.written.Statement.{statement}
 use Rattle.checker.proofs.writing.written.Tie as tie
 
-abbrev lent : tie.Start → Memory
-lent s = memoryOf (s .args .head) (now (s .args .terms)) (s .args .entries)
+abbrev memory : tie.Start → Memory
+memory s = memoryOf (s .args .head) (now (s .args .terms)) (s .args .entries)
 
 -- the text that is asked for
 abbrev text-of : tie.Start → List ℕ
-text-of s = textOf (s .args .number) (s .args .head .variables) (standingOf (lent s))
+text-of s = textOf (s .args .number) (s .args .head .variables) (hardIn (now (s .args .hard))) (standingOf (memory s))
 
 -- a table of the lines of a memory has as many lines
 same-lines : (m : Memory) (t : Table) → T (wellFormed m) → linesOf t ≡ standingOf m → Fits 128 t → t .lines ≡ m .lines
@@ -49,14 +50,16 @@ module _ (area text : List ℕ) (size : ℕ) (e : size ≡ length text) where
       (ap (λ (n : ℕ). record { area = text ++ drop n area; told = answered (length text) }) (zero-add (length text)))
 
 -- the text, and its length, where it is made
-size-is : (c : tie.After-put-text) → c .put-text .result ≡ length (text-of (c .before .before .before .before .before .before .before .before .before .before .before .before .before .before .before .before .before .before))
-size-is c = let a = c .before .before .before .before .before .before .before .before .before .before .before .before .before .before .before .before .before .before .args in c .put-text .ensures .0 ∙ ap (λ (L : List Line). length (textOf (a .number) (a .head .variables) L)) (c .before .before .before .before .before .before .before .before .before .before .«open» .ensures .0)
+size-is : (c : tie.After-put-text) → c .put-text .result ≡ length (text-of (c .before .before .before .before .before .before .before .before .before .before .before .before .before .before .before .before .before .before .before))
+size-is c =
+    let a = c .before .before .before .before .before .before .before .before .before .before .before .before .before .before .before .before .before .before .before .args in
+    c .put-text .ensures .0 ∙ ap (λ (L : List Line). length (textOf (a .number) (a .head .variables) (hardIn (now (a .hard))) L)) (c .before .before .before .before .before .before .before .before .before .before .«open» .ensures .0)
 
-text-is : (c : tie.After-put-text) → take (c .put-text .result - 0) (c .put-text .last .0) ≡ text-of (c .before .before .before .before .before .before .before .before .before .before .before .before .before .before .before .before .before .before)
+text-is : (c : tie.After-put-text) → take (c .put-text .result - 0) (c .put-text .last .0) ≡ text-of (c .before .before .before .before .before .before .before .before .before .before .before .before .before .before .before .before .before .before .before)
 text-is c =
-    let a = c .before .before .before .before .before .before .before .before .before .before .before .before .before .before .before .before .before .before .args in
+    let a = c .before .before .before .before .before .before .before .before .before .before .before .before .before .before .before .before .before .before .before .args in
     let k = c .put-text in
-    front _ _ _ _ (k .ensures .1 .0) (k .ensures .0) ∙ ap (λ (L : List Line). textOf (a .number) (a .head .variables) L) (c .before .before .before .before .before .before .before .before .before .before .«open» .ensures .0)
+    front _ _ _ _ (k .ensures .1 .0) (k .ensures .0) ∙ ap (λ (L : List Line). textOf (a .number) (a .head .variables) (hardIn (now (a .hard))) L) (c .before .before .before .before .before .before .before .before .before .before .«open» .ensures .0)
 
 fresh-order-requires : tie.Need-fresh-order-requires
 fresh-order-requires c κs = search needs
@@ -93,12 +96,12 @@ slice-aggregate-put-text-5 c = search needs
 
 put-text-requires : tie.Need-put-text-requires
 put-text-requires c κs =
-    let s = c .before .before .before .before .before .before .before .before .before .before .before .before .before .before .before .before .before in
+    let s = c .before .before .before .before .before .before .before .before .before .before .before .before .before .before .before .before .before .before in
     let o = c .before .before .before .before .before .before .before .before .before .«open» in
-    (o .ensures .1, omega (arith, s .pre .1, same-lines (lent s) _ (s .pre .0) (o .ensures .0) (o .ensures .1)), lit≤ tt)
+    (s .pre .1, o .ensures .1, omega (arith, s .pre .2, same-lines (memory s) _ (s .pre .0) (o .ensures .0) (o .ensures .1)), lit≤ tt)
 
 returns : tie.Need-returns
-returns c = let s = c .before .before .before .before .before .before .before .before .before .before .before .before .before .before .before .before .before .before .before .before in too-long (now (s .args .area)) (text-of s) _ (size-is (c .before .before)) (c .if1 .taken)
+returns c = let s = c .before .before .before .before .before .before .before .before .before .before .before .before .before .before .before .before .before .before .before .before .before in too-long (now (s .args .area)) (text-of s) _ (size-is (c .before .before)) (c .if1 .taken)
 
 sub-put-bytes : tie.Need-sub-put-bytes
 sub-put-bytes c = search needs
@@ -117,10 +120,9 @@ same-length c = search needs
 
 returns-2 : tie.Need-returns-2
 returns-2 c =
-    let s = c .before .before .before .before .before .before .before .before .before .before .before .before .before .before .before .before .before .before .before .before .before .before .before .before .before .before in
+    let s = c .before .before .before .before .before .before .before .before .before .before .before .before .before .before .before .before .before .before .before .before .before .before .before .before .before .before .before in
     let k = c .before .before .before .before .before .before .before .before in
-    fits-in (now (s .args .area)) (text-of s) _ (size-is k) (c .before .before .before .before .before .before .if1 .left) _
-    (c .before .before .put-bytes .ensures .1 ∙ ap (λ (t : List ℕ). overwritten (now (s .args .area)) 0 t) (text-is k))
+    fits-in (now (s .args .area)) (text-of s) _ (size-is k) (c .before .before .before .before .before .before .if1 .left) _ (c .before .before .put-bytes .ensures .1 ∙ ap (λ (t : List ℕ). overwritten (now (s .args .area)) 0 t) (text-is k))
 
 pub written-spec : {M : Type 1} → statement M
 written-spec =

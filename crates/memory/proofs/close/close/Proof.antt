@@ -204,7 +204,7 @@ returns c =
     let o = c .before .before .before .before .before in
     let l = o .before .loop in
     let s = before o in
-    λ n. image-is o n _ (c .before .before .clear-part .ensures ∙ ap (λ (m : List ℕ). take (l .end) m ++ (replicate (s .args .used - l .end) 0 ++ drop (s .args .used) m)) (terms-are o)
+    λ n k. image-is o n _ (c .before .before .clear-part .ensures ∙ ap (λ (m : List ℕ). take (l .end) m ++ (replicate (s .args .used - l .end) 0 ++ drop (s .args .used) m)) (terms-are o)
     ∙ cleared-now (allTerms (all o)) (now (s .args .terms)) (s .args .used) (s .pre .1) (l .end) (end-is o) (c .before .before .before .before .if1 .taken))
 
 same-length-2 : tie.Need-same-length-2 Inv-loop μ-loop
@@ -215,7 +215,7 @@ returns-2 c =
     let o = c .before in
     let l = o .before .loop in
     let s = before o in
-    λ n. image-is o n _ (terms-are o ∙ already-clear (allTerms (all o)) (now (s .args .terms)) (s .args .used) (s .pre .1) (l .end) (end-is o) (c .if1 .left)
+    λ n k. image-is o n _ (terms-are o ∙ already-clear (allTerms (all o)) (now (s .args .terms)) (s .args .used) (s .pre .1) (l .end) (end-is o) (c .if1 .left)
     (omega (arith, end-is o, length-terms (all o) (table-short (s .pre .0)), length-lines (s .pre .0), s .pre .0 .room)))
 
 pub close-spec : {M : Type 1} → statement M
