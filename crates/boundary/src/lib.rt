@@ -8,7 +8,7 @@ ghost use mathlib.Core.Path.{_≡_};
 ghost use Rattle.report.specs.Report.{checkInto, codeInto};
 
 // All that the program `check_derivation` prints of these files, at the front of the area, and its length; 0 where the area is
-// shorter than 2,179,648 bytes, which hold every report.
+// shorter than 2,449,984 bytes, which hold every report.
 #[no_mangle]
 pub extern "C" fn ittavluna_check(problem: &[u8], steps: &[u8], out: &mut [u8]) -> usize
     ensures { λ r. ⌜ record { area = now (out .exit); size = r } ≡ checkInto (now (problem .entry)) (now (steps .entry)) (now (out .entry)) ⌝ }

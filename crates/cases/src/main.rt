@@ -8,7 +8,7 @@ use report::held;
 ghost use Prim.Native.Nat.{_<_};
 
 // How many cases there are.
-const CASES: usize = 253;
+const CASES: usize = 383;
 
 fn print(text: &[u8]) {
     io::write_all(libc::STDOUT_FILENO, text);
@@ -63,6 +63,6 @@ fn run_all(out: &mut [u8]) {
 }
 
 fn main() {
-    let mut out = [0u8; 2179648];
+    let mut out = [0u8; 2449984];
     run_all(&mut out)
 }

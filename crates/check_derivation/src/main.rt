@@ -9,7 +9,7 @@ fn print(text: &[u8]) {
 
 // Prints the whole report.
 fn run(bytes: &[u8], steps: &[u8]) {
-    let mut out = [0u8; 2179648];
+    let mut out = [0u8; 2449984];
     let size = check_files(bytes, steps, &mut out);
     print(&out[..size])
 }

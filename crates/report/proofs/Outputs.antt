@@ -8,10 +8,13 @@ use lib.ListN.{replicate}
 use Rattle.refusal.specs.declared.Reason.{Reason}
 use Rattle.configuration.specs.Configuration.{Line, isConfiguration}
 use Rattle.configuration.specs.Made.{Made}
+use Rattle.hard.specs.Hard.{isHardList}
+use Rattle.hard.specs.Working.{hardIn, runOf, HardFits}
+use Rattle.hard.specs.WorkingLaws.{run-back, run-fits}
 use Rattle.table.specs.Rows.{Fits, inTurn}
 use Rattle.table.specs.RowsLaws.{blank-fits}
 use Rattle.problem.specs.Problem.{fileProblem, toldOfFiling}
-use Rattle.problem.specs.ProblemLaws.{filed-configuration}
+use Rattle.problem.specs.ProblemLaws.{filed-configuration, filed-hard}
 use Rattle.problem.specs.declared.FilingAnswer.{FilingAnswer}
 use Rattle.problem.specs.declared.FilingAnswer.the-variants.{Filed, Refused}
 use Rattle.derivation.specs.Derivation.{Confirmation, checkDerivation, toldOfCheck}
@@ -25,29 +28,41 @@ pub fresh-table : (is : List ℕ) → is ≡ inTurn 128 0 → Fits 128 (record {
 fresh-table is e =
     subst (λ (l : List ℕ). Fits 128 (record { lines = 0; order = l; terms = replicate 8192 0; weights = replicate 128 (pos 0); counts = replicate 128 0 })) (sym e) blank-fits
 
--- a filing of n variables and the lines L, and its answer
-module _ (s : List ℕ) (n : ℕ) (L : List Line) (a : FilingAnswer) (e : _≡_ {A = Made (Unit {0})} (record { variables = n; lines = L; told = toldOfFiling a }) (fileProblem s)) where
+-- what the promise of a filing says of the variables, the run of the hard list, the lines and the answer
+abbrev FiledAs : List ℕ → ℕ → List ℕ → List Line → FilingAnswer → Type 0
+FiledAs s n rs L a = let x = fileProblem s in (n ≡ x .variables) × (rs ≡ runOf (x .hard)) × (L ≡ x .lines) × (toldOfFiling a ≡ x .told)
+
+module _ (s : List ℕ) (n : ℕ) (rs : List ℕ) (L : List Line) (a : FilingAnswer) (e : FiledAs s n rs L a) where
+  filed-back : hardIn rs ≡ fileProblem s .hard
+  filed-back = let x = fileProblem s in ap hardIn (e .1) ∙ run-back (x .variables) (x .hard) (filed-hard s)
+
+  pub filed-fits : HardFits rs
+  filed-fits = let x = fileProblem s in subst HardFits (sym (e .1)) (run-fits (x .variables) (x .hard) (filed-hard s))
+
+  pub filed-list : T (isHardList n (hardIn rs))
+  filed-list = rw (e .0, filed-back) (filed-hard s)
+
   pub filed-lines : T (isConfiguration n L)
-  filed-lines = subst (λ (x : Made (Unit {0})). T (isConfiguration (x .variables) (x .lines))) (sym e) (filed-configuration s)
+  filed-lines = rw (e .0, e .2) (filed-configuration s)
 
   -- what is printed where the filing is accepted, by what it made and by its answer
-  module _ (text : ℕ → List Line → List ℕ) where
-    told : ifFiled (toldOfFiling a) (text n L) ≡ (let x = fileProblem s in ifFiled (x .told) (text (x .variables) (x .lines)))
-    told = ap (λ (x : Made (Unit {0})). ifFiled (x .told) (text (x .variables) (x .lines))) e
+  module _ (text : ℕ → List (List ℕ) → List Line → List ℕ) where
+    told : ifFiled (toldOfFiling a) (text n (hardIn rs) L) ≡ (let x = fileProblem s in ifFiled (x .told) (text (x .variables) (x .hard) (x .lines)))
+    told = rw (e .0, filed-back, e .2, e .3)
 
-    accepted : a ≡ Filed → text n L ≡ (let x = fileProblem s in ifFiled (x .told) (text (x .variables) (x .lines)))
-    accepted f = ap (λ (b : FilingAnswer). ifFiled (toldOfFiling b) (text n L)) (sym f) ∙ told
+    accepted : a ≡ Filed → text n (hardIn rs) L ≡ (let x = fileProblem s in ifFiled (x .told) (text (x .variables) (x .hard) (x .lines)))
+    accepted f = ap (λ (b : FilingAnswer). ifFiled (toldOfFiling b) (text n (hardIn rs) L)) (sym f) ∙ told
 
     turned-down : (k : ℕ) (reason : Reason) → a ≡ Refused k reason
-        → filingText (toldOfFiling a) ≡ (let x = fileProblem s in ifFiled (x .told) (text (x .variables) (x .lines)))
+        → filingText (toldOfFiling a) ≡ (let x = fileProblem s in ifFiled (x .told) (text (x .variables) (x .hard) (x .lines)))
     turned-down k reason f =
-        ap (λ (b : FilingAnswer). filingText (toldOfFiling b)) f ∙ ap (λ (b : FilingAnswer). ifFiled (toldOfFiling b) (text n L)) (sym f) ∙ told
+        ap (λ (b : FilingAnswer). filingText (toldOfFiling b)) f ∙ ap (λ (b : FilingAnswer). ifFiled (toldOfFiling b) (text n (hardIn rs) L)) (sym f) ∙ told
 
   -- what the second program prints
-  abbrev coded : ℕ → List Line → List ℕ
-  coded k M = codeText (codeOf k M)
+  abbrev coded : ℕ → List (List ℕ) → List Line → List ℕ
+  coded k H M = codeText (codeOf k H M)
 
-  pub code-told : (code : ℕ) → a ≡ Filed → code ≡ codeOf n L → codeText code ≡ codeOutput s
+  pub code-told : (code : ℕ) → a ≡ Filed → code ≡ codeOf n (hardIn rs) L → codeText code ≡ codeOutput s
   unfolding codeOutput
   code-told code f c = ap codeText c ∙ accepted coded f
 
@@ -56,7 +71,7 @@ module _ (s : List ℕ) (n : ℕ) (L : List Line) (a : FilingAnswer) (e : _≡_ 
   refusal-told k reason f = turned-down coded k reason f
 
   -- what the checking program prints
-  pub report-told : (t : List ℕ) → a ≡ Filed → reportText t n L ≡ checkOutput s t
+  pub report-told : (t : List ℕ) → a ≡ Filed → reportText t n (hardIn rs) L ≡ checkOutput s t
   unfolding checkOutput
   report-told t f = accepted (reportText t) f
 
@@ -65,9 +80,9 @@ module _ (s : List ℕ) (n : ℕ) (L : List Line) (a : FilingAnswer) (e : _≡_ 
   report-refused t k reason f = turned-down (reportText t) k reason f
 
 -- a report, by what the check made
-pub report-parts : (t : List ℕ) (n : ℕ) (L M : List Line) (b : CheckAnswer)
-    → _≡_ {A = Made Confirmation} (record { variables = n; lines = M; told = toldOfCheck b }) (checkDerivation t n L)
-    → reportText t n L ≡ listingOf n L ++ (listingOf n M ++ verdictText (toldOfCheck b))
-report-parts t n L M b e =
-    ap (λ (y : Made Confirmation). listingOf n L ++ listingOf (y .variables) (y .lines) ++ verdictText (y .told)) (sym e)
-    ∙ append-assoc (listingOf n L) (listingOf n M) (verdictText (toldOfCheck b))
+pub report-parts : (t : List ℕ) (n : ℕ) (H : List (List ℕ)) (L M : List Line) (b : CheckAnswer)
+    → _≡_ {A = Made Confirmation} (record { variables = n; lines = M; told = toldOfCheck b }) (checkDerivation t n H L)
+    → reportText t n H L ≡ listingOf n H L ++ (listingOf n H M ++ verdictText (toldOfCheck b))
+report-parts t n H L M b e =
+    ap (λ (y : Made Confirmation). listingOf n H L ++ listingOf (y .variables) H (y .lines) ++ verdictText (y .told)) (sym e)
+    ∙ append-assoc (listingOf n H L) (listingOf n H M) (verdictText (toldOfCheck b))

@@ -34,7 +34,7 @@ unfolding confirmedText
 confirmed-parts w d = regroup (ascii "confirmed ") (weightText w) (ascii " degree ") (decimal d) (ascii "\n")
 
 -- ---- the lengths: 64 bytes hold every line
-pub refusal-short : (x : Refusal) (k : ℕ) → x .number ≤ 17 → length (refusalText x k) ≤ 42
+pub refusal-short : (x : Refusal) (k : ℕ) → x .number ≤ 19 → length (refusalText x k) ≤ 42
 unfolding refusalText
 refusal-short x k h = simp length-append (omega (arith, decimal-digits 1 (x .number) (omega arith) (omega arith), decimal-short k))
 

@@ -1,5 +1,5 @@
--- What the programs print of their files' bytes. Document 01: "`problem refused R at record K`", "`confirmed W degree D` (claim and degree) or `refused R at record K`",
--- and "the code of the whole listing .. as sixteen lower-case hex digits". Every line ends in a newline byte.
+-- What the programs print of their files' bytes. Document 01: "`problem refused R at record K`", "`confirmed W degree D` (claim and degree) or `refused R
+-- at record K`", and "the code of the whole listing .. as sixteen lower-case hex digits". Every line ends in a newline byte.
 use mathlib.Core.Bool.{cond}
 use mathlib.Core.List.{List, [], _++_}
 use Prim.Native.Nat.{ℕ, _-_}
@@ -47,18 +47,19 @@ ifFiled (refusedAt k x) text = filingText (refusedAt k x)
 unfoldable pub codeOutput : List ℕ → List ℕ
 codeOutput s =
     let x = fileProblem s in
-    ifFiled (x .told) (codeText (codeOf (x .variables) (x .lines)))
+    ifFiled (x .told) (codeText (codeOf (x .variables) (x .hard) (x .lines)))
 
--- the checking program: "the listing before, the listing after, and the verdict", of a derivation's bytes and a configuration of n variables
-abbrev pub reportText : List ℕ → ℕ → List Line → List ℕ
-reportText t n L =
-    let y = checkDerivation t n L in
-    listingOf n L ++ listingOf (y .variables) (y .lines) ++ verdictText (y .told)
+-- the checking program: "the listing before, the listing after, and the verdict", of a derivation's bytes and a configuration of n variables with its
+-- hard list, which is the same in both listings
+abbrev pub reportText : List ℕ → ℕ → List (List ℕ) → List Line → List ℕ
+reportText t n H L =
+    let y = checkDerivation t n H L in
+    listingOf n H L ++ listingOf (y .variables) H (y .lines) ++ verdictText (y .told)
 
 unfoldable pub checkOutput : List ℕ → List ℕ → List ℕ
 checkOutput s t =
     let x = fileProblem s in
-    ifFiled (x .told) (reportText t (x .variables) (x .lines))
+    ifFiled (x .told) (reportText t (x .variables) (x .hard) (x .lines))
 
 -- "one above 8,192 bytes gives only the line `problem too long` or `steps too long`, the first if both; lengths are tested before all else"
 abbrev pub codeOfFile : List ℕ → List ℕ
@@ -67,8 +68,8 @@ codeOfFile s = cond (leb (length s) 8192) (codeOutput s) (ascii "problem too lon
 abbrev pub checkOfFiles : List ℕ → List ℕ → List ℕ
 checkOfFiles s t = cond (leb (length s) 8192) (cond (leb (length t) 8192) (checkOutput s t) (ascii "steps too long\n")) (ascii "problem too long\n")
 
--- ---- a text at the front of a lent area, and its length: the bytes after it stay as they were. An area that has not the room that every such text needs is left
--- as it was, and the length is 0, which is that of no text (ReportLaws.antt).
+-- ---- a text at the front of a lent area, and its length: the bytes after it stay as they were. An area that has not the room that every such text needs
+-- is left as it was, and the length is 0, which is that of no text (ReportLaws.antt).
 pub record Given : Type 0 where
   pub area : List ℕ
   pub size : ℕ
@@ -76,9 +77,9 @@ pub record Given : Type 0 where
 abbrev pub given : ℕ → List ℕ → List ℕ → Given
 given room text area = cond (leb room (length area)) (record { area = text ++ drop (length text) area; size = length text }) (record { area = area; size = 0 })
 
--- all that the checking program prints
+-- all that the checking program prints: two listings of at most 145 texts of 8,448 bytes, and a line of 64
 abbrev pub checkInto : List ℕ → List ℕ → List ℕ → Given
-checkInto problem steps area = given 2179648 (checkOfFiles problem steps) area
+checkInto problem steps area = given 2449984 (checkOfFiles problem steps) area
 
 -- the line that the second program prints
 abbrev pub codeInto : List ℕ → List ℕ → Given

@@ -47,9 +47,9 @@ pub check-some : (s t : List ℕ) → 0 < length (checkOfFiles s t)
 unfolding checkOutput
 check-some s t =
     let x = fileProblem s in
-    let y = checkDerivation t (x .variables) (x .lines) in
-    let before : List ℕ = listingOf (x .variables) (x .lines) in
-    let after : List ℕ = listingOf (y .variables) (y .lines) in
+    let y = checkDerivation t (x .variables) (x .hard) (x .lines) in
+    let before : List ℕ = listingOf (x .variables) (x .hard) (x .lines) in
+    let after : List ℕ = listingOf (y .variables) (x .hard) (y .lines) in
     cond-ind (leb (length s) 8192) (λ (z : List ℕ). 0 < length z)
     (λ a. cond-ind (leb (length t) 8192) (λ (z : List ℕ). 0 < length z)
     (λ b. filed-some (x .told) (before ++ after ++ verdictText (y .told)) (behind (before ++ after) (verdictText (y .told)) (verdict-some (y .told))))
@@ -61,5 +61,5 @@ unfolding codeOutput
 code-some s =
     let x = fileProblem s in
     cond-ind (leb (length s) 8192) (λ (z : List ℕ). 0 < length z)
-    (λ a. filed-some (x .told) (codeText (codeOf (x .variables) (x .lines))) (omega arith))
+    (λ a. filed-some (x .told) (codeText (codeOf (x .variables) (x .hard) (x .lines))) (omega arith))
     (λ a. omega arith)

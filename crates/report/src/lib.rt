@@ -1,5 +1,5 @@
 // What the programs print of their files' bytes: the lines besides the listings, and all of it as one text. The lines of a problem stand in
-// a table of this crate's own, from the filing to the last listing: nothing is lent.
+// a table of this crate's own, and its hard list in a run beside it, from the filing to the last listing: nothing is lent.
 use derivation::CheckAnswer;
 use derivation::check_derivation;
 use listing::code::code_of;
@@ -18,6 +18,8 @@ ghost use lib.Dec.{T};
 ghost use lib.ListN.{length, take};
 ghost use Rattle.refusal.specs.Refusal.{refusalOf};
 ghost use Rattle.configuration.specs.Configuration.{isConfiguration};
+ghost use Rattle.hard.specs.Hard.{isHardList};
+ghost use Rattle.hard.specs.Working.{hardIn, HardFits};
 ghost use Rattle.table.specs.Rows.{tableAt, tableBefore, linesOf, Fits};
 ghost use Rattle.problem.specs.Problem.{toldOfFiling};
 ghost use Rattle.derivation.specs.Derivation.{toldOfCheck};
@@ -107,15 +109,24 @@ fn code_line(code: u64) -> Text
 fn problem_line(bytes: &[u8]) -> Text
     ensures { λ r. ⌜ r ≡ lineOf (codeOutput (now (bytes .entry))) ⌝ }
 {
+    let mut hard = [0u32; 1041];
     let mut order = fresh_order();
     let mut terms = [0u32; 8192];
     let mut weights = [0i64; 128];
     let mut counts = [0u32; 128];
-    let filing = file_problem(bytes, &mut order, &mut terms, &mut weights, &mut counts);
+    let filing = file_problem(
+        bytes,
+        &mut hard,
+        &mut order,
+        &mut terms,
+        &mut weights,
+        &mut counts,
+    );
     let answer = filing.answer;
     match answer {
         FilingAnswer::Filed => code_line(code_of(
             filing.variables,
+            &hard,
             filing.lines,
             &order,
             &terms,
@@ -138,43 +149,73 @@ fn put_line(out: &mut [u8], at: usize, line: Text) -> usize
 }
 
 // The listing before, the listing after and the verdict on a derivation's bytes, as one text at the front of the bytes: the lines
-// before stand in a table, and those after it are left there. It is for `check_report`, which has filed them.
+// before stand in a table, and those after it are left there; the hard list stays. It is for `check_report`, which has filed them.
 fn put_report(
     steps: &[u8],
     out: &mut [u8],
     variables: u32,
+    hard: &[u32],
     lines: usize,
     order: &mut [u64],
     terms: &mut [u32],
     weights: &mut [i64],
     counts: &mut [u32],
 ) -> usize
-    requires { let t = tableAt lines order terms weights counts in
-        ⌜ Fits 128 t × T (isConfiguration variables (linesOf t)) × (2179648 ≤ length (now out)) ⌝ }
-    ensures end { λ r. let L = linesOf (tableBefore lines order terms weights counts) in ⌜ r ≡ length (reportText (now (steps .entry)) variables L) ⌝ }
-    ensures text { λ _. let L = linesOf (tableBefore lines order terms weights counts) in
-        ⌜ now (out .exit) ≡ overwritten (now (out .entry)) 0 (reportText (now (steps .entry)) variables L) ⌝ }
+    requires { let H = hardIn (now hard) in let t = tableAt lines order terms weights counts in
+        ⌜ HardFits (now hard) × T (isHardList variables H) × Fits 128 t × T (isConfiguration variables (linesOf t)) × (2449984 ≤ length (now out)) ⌝ }
+    ensures end { λ r. let H = hardIn (now (hard .entry)) in let L = linesOf (tableBefore lines order terms weights counts) in
+        ⌜ r ≡ length (reportText (now (steps .entry)) variables H L) ⌝ }
+    ensures text { λ _. let H = hardIn (now (hard .entry)) in let L = linesOf (tableBefore lines order terms weights counts) in
+        ⌜ now (out .exit) ≡ overwritten (now (out .entry)) 0 (reportText (now (steps .entry)) variables H L) ⌝ }
 {
-    let middle = put_listing(out, 0, variables, lines, order, terms, weights, counts);
-    let check = check_derivation(steps, variables, lines, order, terms, weights, counts);
+    let middle = put_listing(
+        out,
+        0,
+        variables,
+        hard,
+        lines,
+        order,
+        terms,
+        weights,
+        counts,
+    );
+    let check = check_derivation(steps, variables, hard, lines, order, terms, weights, counts);
     let left = check.lines;
     let verdict = check.answer;
-    let end = put_listing(out, middle, variables, left, order, terms, weights, counts);
+    let end = put_listing(
+        out,
+        middle,
+        variables,
+        hard,
+        left,
+        order,
+        terms,
+        weights,
+        counts,
+    );
     put_line(out, end, verdict_line(verdict))
 }
 
 // What there is to tell of a problem's and a derivation's bytes, as one text at the front of the bytes: the listing before, the
 // listing after, and the verdict; or what was refused of the problem. It is for `check_files`, which has tested the room.
 fn check_report(bytes: &[u8], steps: &[u8], out: &mut [u8]) -> usize
-    requires { ⌜ 2179648 ≤ length (now out) ⌝ }
+    requires { ⌜ 2449984 ≤ length (now out) ⌝ }
     ensures end { λ r. ⌜ r ≡ length (checkOutput (now (bytes .entry)) (now (steps .entry))) ⌝ }
     ensures text { λ _. ⌜ now (out .exit) ≡ overwritten (now (out .entry)) 0 (checkOutput (now (bytes .entry)) (now (steps .entry))) ⌝ }
 {
+    let mut hard = [0u32; 1041];
     let mut order = fresh_order();
     let mut terms = [0u32; 8192];
     let mut weights = [0i64; 128];
     let mut counts = [0u32; 128];
-    let filing = file_problem(bytes, &mut order, &mut terms, &mut weights, &mut counts);
+    let filing = file_problem(
+        bytes,
+        &mut hard,
+        &mut order,
+        &mut terms,
+        &mut weights,
+        &mut counts,
+    );
     let variables = filing.variables;
     let lines = filing.lines;
     let answer = filing.answer;
@@ -183,6 +224,7 @@ fn check_report(bytes: &[u8], steps: &[u8], out: &mut [u8]) -> usize
             steps,
             out,
             variables,
+            &hard,
             lines,
             &mut order,
             &mut terms,
@@ -214,11 +256,11 @@ pub fn code_file(bytes: &[u8]) -> Text
 }
 
 // What the program `check_derivation` prints of its files, at the front of a lent area, and its length; 0 where the area is shorter
-// than 2,179,648 bytes, which hold every report.
+// than 2,449,984 bytes, which hold every report.
 pub fn check_files(bytes: &[u8], steps: &[u8], out: &mut [u8]) -> usize
     ensures { λ r. ⌜ record { area = now (out .exit); size = r } ≡ checkInto (now (bytes .entry)) (now (steps .entry)) (now (out .entry)) ⌝ }
 {
-    if out.len() < 2179648 {
+    if out.len() < 2449984 {
         return 0;
     }
     if 8192 < bytes.len() {

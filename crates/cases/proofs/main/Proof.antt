@@ -6,7 +6,7 @@ use Rattle.cases.proofs.main.Statement.{statement}
 use Rattle.cases.proofs.main.Tie as tie
 
 slice-aggregate-run-all : tie.Need-slice-aggregate-run-all
-slice-aggregate-run-all c = sym (length-replicate {A = ℕ} 2179648 0)
+slice-aggregate-run-all c = sym (length-replicate {A = ℕ} 2449984 0)
 
 run-all-requires : tie.Need-run-all-requires
 run-all-requires c κs = tt

@@ -14,7 +14,7 @@ fits : (c : tie.After-check-files) → c .check-files .result ≤ length (c .che
 fits c =
     let a = c .before .before .before .before .before .args in
     let h = c .check-files in
-    report-fits 2179648 (checkOfFiles (a .bytes .now) (a .steps .now)) (a .out .now) (h .last .1 .1 .0) (h .result) (h .ensures)
+    report-fits 2449984 (checkOfFiles (a .bytes .now) (a .steps .now)) (a .out .now) (h .last .1 .1 .0) (h .result) (h .ensures)
 
 check-files-requires : tie.Need-check-files-requires
 check-files-requires c κs = search needs

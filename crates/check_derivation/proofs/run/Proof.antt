@@ -13,10 +13,10 @@ fits : (c : tie.After-check-files) → c .check-files .result ≤ length (c .che
 fits c =
     let a = c .before .before .before .before .args in
     let h = c .check-files in
-    report-fits 2179648 (checkOfFiles (a .bytes .now) (a .steps .now)) (replicate 2179648 0) (h .last .1 .1 .0) (h .result) (h .ensures)
+    report-fits 2449984 (checkOfFiles (a .bytes .now) (a .steps .now)) (replicate 2449984 0) (h .last .1 .1 .0) (h .result) (h .ensures)
 
 slice-aggregate-check-files : tie.Need-slice-aggregate-check-files
-slice-aggregate-check-files c = sym (length-replicate {A = ℕ} 2179648 0)
+slice-aggregate-check-files c = sym (length-replicate {A = ℕ} 2449984 0)
 
 check-files-requires : tie.Need-check-files-requires
 check-files-requires c κs = tt

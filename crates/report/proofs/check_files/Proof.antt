@@ -16,7 +16,7 @@ use Rattle.report.proofs.check_files.Tie as tie
 returns : tie.Need-returns
 returns c =
     let a = c .before .before .before .before .args in
-    short-area 2179648 (checkOfFiles (a .bytes .now) (a .steps .now)) (a .out .now) (omega (arith, c .if1 .taken))
+    short-area 2449984 (checkOfFiles (a .bytes .now) (a .steps .now)) (a .out .now) (omega (arith, c .if1 .taken))
 
 slice-aggregate-put-bytes : tie.Need-slice-aggregate-put-bytes
 slice-aggregate-put-bytes c = search needs
@@ -32,8 +32,8 @@ returns-2 c =
     let k = c .before .before .before .before .before in
     let a = k .before .before .before .before .before .args in
     let r = c .before .before .put-bytes in
-    whole-text 2179648 (ascii "problem too long\n") (a .out .now) (r .last .0) (r .result) (omega (arith, k .before .if1 .left)) (r .ensures)
-    ∙ ap (λ (x : List ℕ). given 2179648 x (a .out .now)) (problem-too-long (a .bytes .now) (a .steps .now) (omega (arith, k .if2 .taken)))
+    whole-text 2449984 (ascii "problem too long\n") (a .out .now) (r .last .0) (r .result) (omega (arith, k .before .if1 .left)) (r .ensures)
+    ∙ ap (λ (x : List ℕ). given 2449984 x (a .out .now)) (problem-too-long (a .bytes .now) (a .steps .now) (omega (arith, k .if2 .taken)))
 
 slice-aggregate-put-bytes-2 : tie.Need-slice-aggregate-put-bytes-2
 slice-aggregate-put-bytes-2 c = search needs
@@ -49,8 +49,8 @@ returns-3 c =
     let k = c .before .before .before .before .before in
     let a = k .before .before .before .before .before .before .args in
     let r = c .before .before .put-bytes2 in
-    whole-text 2179648 (ascii "steps too long\n") (a .out .now) (r .last .0) (r .result) (omega (arith, k .before .before .if1 .left)) (r .ensures)
-    ∙ ap (λ (x : List ℕ). given 2179648 x (a .out .now))
+    whole-text 2449984 (ascii "steps too long\n") (a .out .now) (r .last .0) (r .result) (omega (arith, k .before .before .if1 .left)) (r .ensures)
+    ∙ ap (λ (x : List ℕ). given 2449984 x (a .out .now))
     (steps-too-long (a .bytes .now) (a .steps .now) (omega (arith, k .before .if2 .left)) (omega (arith, k .if3 .taken)))
 
 check-report-requires : tie.Need-check-report-requires
@@ -65,8 +65,8 @@ returns-4 c =
     let a = k .before .before .before .before .before .before .args in
     let r = c .before .before .check-report in
     let text : List ℕ = checkOutput (a .bytes .now) (a .steps .now) in
-    whole-text 2179648 text (a .out .now) (r .last .1 .1 .0) (r .result) (omega (arith, k .before .before .if1 .left)) (r .ensures .0 ∙ sym (zero-add (length text)), r .ensures .1)
-    ∙ ap (λ (x : List ℕ). given 2179648 x (a .out .now))
+    whole-text 2449984 text (a .out .now) (r .last .1 .1 .0) (r .result) (omega (arith, k .before .before .if1 .left)) (r .ensures .0 ∙ sym (zero-add (length text)), r .ensures .1)
+    ∙ ap (λ (x : List ℕ). given 2449984 x (a .out .now))
     (check-fits (a .bytes .now) (a .steps .now) (omega (arith, k .before .if2 .left)) (omega (arith, k .if3 .left)))
 
 pub check-files-spec : {M : Type 1} → statement M
