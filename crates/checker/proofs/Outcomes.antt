@@ -17,6 +17,7 @@ use Rattle.refusal.specs.declared.Objection.the-variants.{Nothing, Found}
 use Rattle.configuration.specs.Configuration.{Line}
 use Rattle.configuration.specs.Made.{Made}
 use Rattle.hard.specs.Hard.{isHardList, HardArea, hardOf, hardImage, hardSized, hardFormed}
+use Rattle.hard.specs.HardLaws.{formed-parts}
 use Rattle.hard.specs.Working.{flat, hardIn, HardFits}
 use Rattle.hard.specs.WorkingLaws.{flat-fits, flat-back}
 use Rattle.memory.specs.Memory.{Memory, backToBack, standingOf, imageOf}
@@ -78,7 +79,10 @@ module _ (x : Lent) where
     pub well : found ≡ Nothing → T (lentFormed x)
     well e = of-true (passing-taken (lentTests backToBack x) passed (sym tested ∙ ap (λ (y : Objection). objected y passed) e) .0 .1 .0)
 
--- ---- the hard list in its working form, behind the tests
+-- ---- the hard list behind the tests: its lengths, and its working form
+pub areas-long : (x : Lent) → T (lentFormed x) → (length (x .hard .counts) ≡ 16) × (length (x .hard .places) ≡ 1024)
+areas-long x h = let q = formed-parts (x .memory .variables) (x .hard) (formed-hard backToBack x h) in (q .counts-length, q .places-length)
+
 module _ (x : Lent) (h : T (lentFormed x)) (rs : List ℕ) (e : rs ≡ flat (x .hard)) where
   hard-formed : T (hardFormed (x .memory .variables) (x .hard))
   hard-formed = formed-hard backToBack x h

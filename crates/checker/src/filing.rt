@@ -43,7 +43,8 @@ pub fn unfit() -> Filed
 fn lines_filed(bytes: &[u8], terms: &mut [u32], hard: &mut [u32]) -> Done
     requires { ⌜ (length (now terms) ≡ 8192) × (now hard ≡ runOf []) ⌝ }
     ensures made { λ r. let x = fileProblem (now (bytes .entry)) in let a = hardImage (x .hard) in
-        ⌜ leftOf (lentOf (r .filed .head) (now (terms .exit)) (r .entries) (a .counts) (a .places)) (toldOfFiling (r .filed .answer)) ≡ filedWith backToBack x ⌝ }
+        ⌜ leftOf (lentOf (r .filed .head) (now (terms .exit)) (r .entries) (a .counts) (a .places)) (toldOfFiling (r .filed .answer))
+        ≡ filedWith backToBack x ⌝ }
     ensures hard { λ _. ⌜ now (hard .exit) ≡ runOf (fileProblem (now (bytes .entry)) .hard) ⌝ }
 {
     let mut order = fresh_order();

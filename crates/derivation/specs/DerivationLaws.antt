@@ -3,7 +3,7 @@
 use mathlib.Core.Path.{_≡_, refl, sym, ap, _∙_}
 use mathlib.Core.Bool.{Bool, true, false, cond, not, _&&_}
 use mathlib.Core.List.{List, [], _∷_}
-use Prim.Native.Nat.{ℕ, zero, suc, _+_, _≤_, _<_}
+use Prim.Native.Nat.{ℕ, _+_, _≤_, _<_}
 use native.Mathlib.Omega.{arith}
 use lib.Dec.{T, leb→le, le→leb, eqb, eqb→eq}
 use lib.IntN.{ℤ, pos, negsuc}
@@ -27,6 +27,7 @@ use Rattle.calculus.specs.declared.Mode.{Mode}
 use Rattle.calculus.specs.declared.Mode.the-variants.{Plain, Signed}
 use Rattle.record.specs.Letters.{letterN, letterZ, letterM, letterK, letterS, letterP, letterE, letterB}
 use Rattle.record.specs.Record.{whole, numberAt, signedAt}
+use Rattle.record.specs.RecordLaws.{within-bytes}
 use Rattle.walk.specs.Walk.{Progress, begun, past, readAll, verdict}
 use Rattle.walk.specs.Work.{termAdded}
 use Rattle.walk.specs.WalkLaws.{unless-ind, mapped-ind, IfAccepted, walk-keeps, walk-complete}
@@ -35,12 +36,6 @@ use Rattle.derivation.specs.Derivation.{State, fresh, going, having, beg
 use Rattle.run.specs.BooleanLaws as B
 
 -- ---- one record: what an accepted one passed, and what it makes
--- a number that is not 0 is read within the bytes
-within-bytes : (s : List ℕ) (i k : ℕ) → 0 < k → getD s i 0 ≡ k → i < length s
-within-bytes [] i k h e = let x : ⊥ = omega arith in absurd x
-within-bytes (b ∷ s) zero k h e = omega arith
-within-bytes (b ∷ s) (suc i) k h e = omega (arith, within-bytes s i k h e)
-
 module _ (n : ℕ) (H : List (List ℕ)) (s : List ℕ) (p : Progress State) (P : Outcome (Progress State) → Type 0) where
   pub record-ind : ((x : Refusal) → P (refused x))
       → ((d : Mode) → p .at < length s → T (not (p .state .started)) → P (accepted (past p 1 (begins d (p .state)))))

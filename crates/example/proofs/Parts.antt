@@ -16,7 +16,7 @@ use base.Fml.{Lft, GName, Fml, fat, fdies, fdead, flft, flent, fsep}
 use prog.Wp.{Heap, Env, Calls, Loops, spotOf}
 use ghost.Atoms.{Atoms, sem}
 use contract.Monad.{fact}
-use types.Kit.{Given, Item, ‵, raw, _⊛_, some, later, mean, Post, runs, Seq, _$_, _∵_, !, qed, by, move, drop as drops, use1, use2, use3, split, join, pick, fsplit, fjoin, fpick, fpack, feqL, feqI, rewrite, await, updating, now as at-once, show, done}
+use types.Kit.{Given, Item, ‵, raw, _⊛_, some, later, mean, Post, runs, Seq, Step, step, _$_, _∵_, !, qed, by, move, drop as drops, use1, use2, use3, split, join, pick, fsplit, fjoin, fpick, fpack, feqL, feqI, rewrite, await, updating, now as at-once, show, done}
 use types.Part.{agg}
 use types.Run.{stop, from, addr, and-then, no-more}
 use types.SemTy.{cells, Arr}
@@ -187,22 +187,27 @@ module _ {M : Type 1} (𝓤 : URA M) (H : Heap 𝓤) (A : Atoms 𝓤) (W : Given
 -- While they are, X is what the callee gets and Y what the lender has; the locals after i and those before it stand apart
 module _ {M : Type 1} {𝓤 : URA M} {H : Heap 𝓤} {A : Atoms 𝓤} {K : Type 0} {W : Given 𝓤 H A} {Γ : List (Item 𝓤)} {E : Env 𝓤 H}
     {C : Calls 𝓤 H} {Λ : Loops 𝓤 H} {q : Post 𝓤 H} where
-  lends : K → {hs : List Hold} {i a u c : ℕ} {rest : Body} (n : ℕ) → n ≤ 129 → (ls : List Entry) {ρ σ : Ty} {ℓ : Lifetime} {m : Mutability} (X Y : Lft → GName → Fml)
+  -- the two assignments. Nothing is lent by them, so that other locals may be assigned before the call
+  pub points-to : K → {hs : List Hold} {i a u c : ℕ} {rest : Body} (n : ℕ) → n ≤ 129 → {ρ σ : Ty} {ℓ : Lifetime} {m : Mutability}
+      → tysAt 𝓤 H E (a ∷ u ∷ []) ≡ tyRef ℓ m ρ ∷ sliceTy (tyRef ℓ m σ) ∷ [] → InLocal (hold hs a (vptr (spotOf 𝓤 H E i .1) 0)) c (vint w64 n)
+      → Step K W (locals 𝓤 H E (lentPart hs a u (spotOf 𝓤 H E i .1) n) ∷ Γ) (runs C Λ E rest q)
+      (locals 𝓤 H E hs ∷ Γ) (runs C Λ E (seq (assign (place a []) (addrOf (place i [])))
+      (seq (assign (place u []) (aggregate (copy (place a []) ∷ copy (place c []) ∷ []))) rest)) q)
+  points-to t {hs} {i} {a} n h types p = step (λ z.
+      let b : ℕ = spotOf 𝓤 H E i .1 in
+      sets t (addr t (from t (stop t))) (typed-as (vptr b 0) (type-of 0 types) (tt, tt)) $
+      sets t (agg t (and-then t (var t (held-now hs a (vptr b 0))) (and-then t (var t p) (no-more t))))
+      (typed-as (sliceVal (b, 0) n) (type-of 1 types) (tt, (tt, (record { fits = lt-of-le-of-lt h (lit< tt) }, tt)))) $ z)
+
+  lends : K → {hs : List Hold} {rest : Body} (i : ℕ) (ls : List Entry) (X Y : Lft → GName → Fml)
       → ((κ : Lft) → ent 𝓤 (H .at fullShare records-type (spotOf 𝓤 H E i .1) 0 (entries-value ls))
       (H .⇛ (ex 𝓤 (λ (δ : GName). sep 𝓤 (sem 𝓤 H A (X κ δ)) (sem 𝓤 H A (Y κ δ))))))
-      → tysAt 𝓤 H E (i ∷ a ∷ u ∷ []) ≡ records-type ∷ tyRef ℓ m ρ ∷ sliceTy (tyRef ℓ m σ) ∷ []
-      → InLocal (hold hs a (vptr (spotOf 𝓤 H E i .1) 0)) c (vint w64 n) → InLocal (lentPart hs a u (spotOf 𝓤 H E i .1) n) i (entries-value ls)
-      → ((ν : ℕ) (δ : GName) → Seq K W (locals 𝓤 H (drop (suc i) E) (drop (suc i) (lentPart hs a u (spotOf 𝓤 H E i .1) n))
-      ∷ locals 𝓤 H (take i E) (take i (lentPart hs a u (spotOf 𝓤 H E i .1) n)) ∷ ‵ (fdies records-type (spotOf 𝓤 H E i .1))
-      ∷ ‵ (Y (ν ∷ []) δ) ∷ ‵ (flft (ν ∷ []) fullShare) ∷ ‵ (X (ν ∷ []) δ) ∷ Γ) (runs C Λ E rest q))
-      → Seq K W (locals 𝓤 H E hs ∷ Γ) (runs C Λ E (seq (assign (place a []) (addrOf (place i [])))
-      (seq (assign (place u []) (aggregate (copy (place a []) ∷ copy (place c []) ∷ []))) rest)) q)
-  lends t {hs} {i} {a} {u} n h ls X Y out types pc p k =
-      let b : ℕ = spotOf 𝓤 H E i .1 in
-      sets t (addr t (from t (stop t))) (typed-as (vptr b 0) (type-of 1 types) (tt, tt)) $
-      sets t (agg t (and-then t (var t (held-now hs a (vptr b 0))) (and-then t (var t pc) (no-more t))))
-      (typed-as (sliceVal (b, 0) n) (type-of 2 types) (tt, (tt, (record { fits = lt-of-le-of-lt h (lit< tt) }, tt)))) $
-      takes-out t i records-type (type-of 0 types) p $ lft-new t tt (λ ν. move t (1 ∷ []) $
+      → spotOf 𝓤 H E i .0 ≡ records-type → InLocal hs i (entries-value ls)
+      → ((ν : ℕ) (δ : GName) → Seq K W (locals 𝓤 H (drop (suc i) E) (drop (suc i) hs) ∷ locals 𝓤 H (take i E) (take i hs)
+      ∷ ‵ (fdies records-type (spotOf 𝓤 H E i .1)) ∷ ‵ (Y (ν ∷ []) δ) ∷ ‵ (flft (ν ∷ []) fullShare) ∷ ‵ (X (ν ∷ []) δ) ∷ Γ) (runs C Λ E rest q))
+      → Seq K W (locals 𝓤 H E hs ∷ Γ) (runs C Λ E rest q)
+  lends t i ls X Y out e p k =
+      takes-out t i records-type e p $ lft-new t tt (λ ν. move t (1 ∷ []) $
       use1 W (later (some (λ (δ : GName). ‵ (X (ν ∷ []) δ) ⊛ ‵ (Y (ν ∷ []) δ)))) (out (ν ∷ [])) $ await t tt $ pick t (λ δ. split t $
       move t (4 ∷ 5 ∷ 3 ∷ 1 ∷ 2 ∷ 0 ∷ []) $ k ν δ))
 
@@ -219,18 +224,15 @@ module _ {M : Type 1} {𝓤 : URA M} {H : Heap 𝓤} {A : Atoms 𝓤} {K : Type 
       heard t (IsRecords ls) (λ is. move t (0 ∷ 3 ∷ []) $ puts-back t E i records-type e p $ k is)
 
   -- as `&mut`: what the callee leaves of them, zs, is there then, before the others
-  pub lends-mut : K → {hs : List Hold} {i a u c : ℕ} {rest : Body} (n : ℕ) → n ≤ 129 → (ls : List Entry) {ρ σ : Ty} {ℓ : Lifetime} {m : Mutability} → IsRecords ls
-      → tysAt 𝓤 H E (i ∷ a ∷ u ∷ []) ≡ records-type ∷ tyRef ℓ m ρ ∷ sliceTy (tyRef ℓ m σ) ∷ []
-      → InLocal (hold hs a (vptr (spotOf 𝓤 H E i .1) 0)) c (vint w64 n) → InLocal (lentPart hs a u (spotOf 𝓤 H E i .1) n) i (entries-value ls)
-      → ((ν : ℕ) (δ : GName) → Seq K W (locals 𝓤 H (drop (suc i) E) (drop (suc i) (lentPart hs a u (spotOf 𝓤 H E i .1) n))
-      ∷ locals 𝓤 H (take i E) (take i (lentPart hs a u (spotOf 𝓤 H E i .1) n)) ∷ ‵ (fdies records-type (spotOf 𝓤 H E i .1))
-      ∷ ‵ (PartLent n (spotOf 𝓤 H E i .1) ls (ν ∷ []) δ) ∷ ‵ (flft (ν ∷ []) fullShare)
+  pub lends-mut : K → {hs : List Hold} {rest : Body} (i n : ℕ) → n ≤ 129 → (ls : List Entry) → IsRecords ls
+      → spotOf 𝓤 H E i .0 ≡ records-type → InLocal hs i (entries-value ls)
+      → ((ν : ℕ) (δ : GName) → Seq K W (locals 𝓤 H (drop (suc i) E) (drop (suc i) hs) ∷ locals 𝓤 H (take i E) (take i hs)
+      ∷ ‵ (fdies records-type (spotOf 𝓤 H E i .1)) ∷ ‵ (PartLent n (spotOf 𝓤 H E i .1) ls (ν ∷ []) δ) ∷ ‵ (flft (ν ∷ []) fullShare)
       ∷ ‵ (MutSlice erased (ν ∷ []) R .own (held-at (spotOf 𝓤 H E i .1) δ (take n ls)) (part-values (spotOf 𝓤 H E i .1) n)) ∷ Γ) (runs C Λ E rest q))
-      → Seq K W (locals 𝓤 H E hs ∷ Γ) (runs C Λ E (seq (assign (place a []) (addrOf (place i [])))
-      (seq (assign (place u []) (aggregate (copy (place a []) ∷ copy (place c []) ∷ []))) rest)) q)
-  lends-mut t {i = i} n h ls is =
+      → Seq K W (locals 𝓤 H E hs ∷ Γ) (runs C Λ E rest q)
+  lends-mut t i n h ls is =
       let b : ℕ = spotOf 𝓤 H E i .1 in
-      lends t n h ls (λ κ δ. MutSlice erased κ R .own (held-at b δ (take n ls)) (part-values b n)) (λ κ δ. PartLent n b ls κ δ) (λ κ. kept-out 𝓤 H A W b κ n h ls erased is)
+      lends t i ls (λ κ δ. MutSlice erased κ R .own (held-at b δ (take n ls)) (part-values b n)) (λ κ δ. PartLent n b ls κ δ) (λ κ. kept-out 𝓤 H A W b κ n h ls erased is)
 
   pub gets-mut : K → {before after : List Hold} {ν : ℕ} {δ : GName} {rest : Body} (i n : ℕ) → n ≤ 129 → (ls zs : List Entry) → IsRecords ls
       → spotOf 𝓤 H E i .0 ≡ records-type → Before 𝓤 H E before i
@@ -243,18 +245,15 @@ module _ {M : Type 1} {𝓤 : URA M} {H : Heap 𝓤} {A : Atoms 𝓤} {K : Type 
       gets-back t i (zs ++ drop n ls) (‵ (PartLent n b ls (ν ∷ []) δ) ⊛ ‵ (finally R δ zs)) (kept-back 𝓤 H A W b (ν ∷ []) n h ls (records-length ls is) δ zs) e p k
 
   -- as `&`: they are as they were
-  pub lends-shr : K → {hs : List Hold} {i a u c : ℕ} {rest : Body} (n : ℕ) → n ≤ 129 → (ls : List Entry) {ρ σ : Ty} {ℓ : Lifetime} {m : Mutability} → IsRecords ls
-      → tysAt 𝓤 H E (i ∷ a ∷ u ∷ []) ≡ records-type ∷ tyRef ℓ m ρ ∷ sliceTy (tyRef ℓ m σ) ∷ []
-      → InLocal (hold hs a (vptr (spotOf 𝓤 H E i .1) 0)) c (vint w64 n) → InLocal (lentPart hs a u (spotOf 𝓤 H E i .1) n) i (entries-value ls)
-      → ((ν : ℕ) (δ : GName) → Seq K W (locals 𝓤 H (drop (suc i) E) (drop (suc i) (lentPart hs a u (spotOf 𝓤 H E i .1) n))
-      ∷ locals 𝓤 H (take i E) (take i (lentPart hs a u (spotOf 𝓤 H E i .1) n)) ∷ ‵ (fdies records-type (spotOf 𝓤 H E i .1))
-      ∷ ‵ (Shown n (spotOf 𝓤 H E i .1) ls (ν ∷ [])) ∷ ‵ (flft (ν ∷ []) fullShare)
+  pub lends-shr : K → {hs : List Hold} {rest : Body} (i n : ℕ) → n ≤ 129 → (ls : List Entry) → IsRecords ls
+      → spotOf 𝓤 H E i .0 ≡ records-type → InLocal hs i (entries-value ls)
+      → ((ν : ℕ) (δ : GName) → Seq K W (locals 𝓤 H (drop (suc i) E) (drop (suc i) hs) ∷ locals 𝓤 H (take i E) (take i hs)
+      ∷ ‵ (fdies records-type (spotOf 𝓤 H E i .1)) ∷ ‵ (Shown n (spotOf 𝓤 H E i .1) ls (ν ∷ [])) ∷ ‵ (flft (ν ∷ []) fullShare)
       ∷ ‵ (ShrSlice erased (ν ∷ []) R .own (held-at (spotOf 𝓤 H E i .1) δ (take n ls)) (part-values (spotOf 𝓤 H E i .1) n)) ∷ Γ) (runs C Λ E rest q))
-      → Seq K W (locals 𝓤 H E hs ∷ Γ) (runs C Λ E (seq (assign (place a []) (addrOf (place i [])))
-      (seq (assign (place u []) (aggregate (copy (place a []) ∷ copy (place c []) ∷ []))) rest)) q)
-  lends-shr t {i = i} n h ls is =
+      → Seq K W (locals 𝓤 H E hs ∷ Γ) (runs C Λ E rest q)
+  lends-shr t i n h ls is =
       let b : ℕ = spotOf 𝓤 H E i .1 in
-      lends t n h ls (λ κ δ. ShrSlice erased κ R .own (held-at b δ (take n ls)) (part-values b n)) (λ κ δ. Shown n b ls κ) (λ κ. shown-out 𝓤 H A W b κ n h ls erased is)
+      lends t i ls (λ κ δ. ShrSlice erased κ R .own (held-at b δ (take n ls)) (part-values b n)) (λ κ δ. Shown n b ls κ) (λ κ. shown-out 𝓤 H A W b κ n h ls erased is)
 
   pub gets-shr : K → {before after : List Hold} {ν : ℕ} {rest : Body} (i n : ℕ) → n ≤ 129 → (ls : List Entry) → IsRecords ls
       → spotOf 𝓤 H E i .0 ≡ records-type → Before 𝓤 H E before i

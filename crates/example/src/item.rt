@@ -1,4 +1,4 @@
-// The items of the data. Each is a byte for its kind, two numbers of four bytes and one of eight, and four texts, of which
+// The items of the data. Each is a byte for its kind, three numbers of four bytes and one of eight, and four texts, of which
 // each is its length in four bytes and then so many bytes: a name, the text that is due, and two operands. An operand is bytes,
 // or terms of four bytes each.
 use record::Amount;
@@ -7,7 +7,7 @@ use record::read_amount;
 use record::read_mask;
 use std::num::wrapping_add_usize;
 
-// The kinds. What is lent anew: how many variables and lines, and what every number of the areas is.
+// The kinds. What is lent anew: how many variables, lines and hard polynomials, and what every number of the areas is.
 pub const AREAS: u8 = 0;
 
 // A term of the term area: its place, the term.
@@ -16,25 +16,38 @@ pub const TERM: u8 = 1;
 // A record of the table: its place, its count, its weight.
 pub const RECORD: u8 = 2;
 
-// The operations, for each how many places of the term area and how many records are lent. A filing, a check.
-pub const FILE: u8 = 3;
+// A count of the hard list: its place, the count.
+pub const HARD_COUNT: u8 = 3;
 
-pub const CHECK: u8 = 4;
+// A term of the hard list: its place, the term.
+pub const HARD_TERM: u8 = 4;
+
+// How many counts and how many places of the hard list are lent from now on: 16 and 1,024 after AREAS.
+pub const HARD_LENT: u8 = 5;
+
+// The operations, for each how many places of the term area and how many records are lent. A filing, a check.
+pub const FILE: u8 = 6;
+
+pub const CHECK: u8 = 7;
 
 // Writing a line: its number, and an operand as long as the area.
-pub const LINE: u8 = 5;
+pub const LINE: u8 = 8;
 
-// The steps: their amount, f and g.
-pub const PLAIN_SUM: u8 = 6;
+// The steps: their amount, f and g, and for HARD the number of the hard polynomial.
+pub const PLAIN_SUM: u8 = 9;
 
-pub const PLAIN_PROD: u8 = 7;
+pub const PLAIN_PROD: u8 = 10;
 
-pub const SIGNED_SUM: u8 = 8;
+pub const PLAIN_HARD: u8 = 11;
 
-pub const SIGNED_PROD: u8 = 9;
+pub const SIGNED_SUM: u8 = 12;
+
+pub const SIGNED_PROD: u8 = 13;
+
+pub const SIGNED_HARD: u8 = 14;
 
 // The end of the data, which is this byte alone.
-pub const END: u8 = 10;
+pub const END: u8 = 15;
 
 // No kind.
 const NONE: u8 = 255;
@@ -42,12 +55,13 @@ const NONE: u8 = 255;
 // A place that no data has.
 const BEYOND: usize = 18446744073709551615;
 
-// An item: its kind and its two numbers, where the third and its texts begin, and where the next item does.
+// An item: its kind and its three numbers, where the fourth and its texts begin, and where the next item does.
 pub struct Item {
     pub kind: u8,
     pub first: u32,
     pub second: u32,
-    pub third: usize,
+    pub third: u32,
+    pub fourth: usize,
     pub name: usize,
     pub due: usize,
     pub f: usize,
@@ -115,8 +129,8 @@ pub fn kind_at(data: &[u8], at: usize) -> u8 {
 
 // The item at a place.
 pub fn item_at(data: &[u8], at: usize) -> Item {
-    let third = wrapping_add_usize(at, 9);
-    let name = wrapping_add_usize(at, 17);
+    let fourth = wrapping_add_usize(at, 13);
+    let name = wrapping_add_usize(at, 21);
     let due = behind(data, name);
     let f = behind(data, due);
     let g = behind(data, f);
@@ -124,7 +138,8 @@ pub fn item_at(data: &[u8], at: usize) -> Item {
         kind: kind_at(data, at),
         first: short_at(data, wrapping_add_usize(at, 1)),
         second: short_at(data, wrapping_add_usize(at, 5)),
-        third,
+        third: short_at(data, wrapping_add_usize(at, 9)),
+        fourth,
         name,
         due,
         f,

@@ -12,7 +12,7 @@ ghost use lib.ListN.{length, getD};
 ghost use Rattle.hard.specs.Hard.{isHardList};
 ghost use Rattle.hard.specs.Working.{flat, areaIn, hardIn, runOf, HardFits};
 
-// How many hard polynomials there are.
+// How many hard polynomials there are. It is for the crates `step`, `listing`, `problem` and `checker`, whose runs fit.
 pub fn number_of(hard: &[u32]) -> usize
     requires { ⌜ HardFits (now hard) ⌝ }
     ensures { λ r. ⌜ r ≡ length (hardIn (now (hard .entry))) ⌝ }
@@ -20,7 +20,7 @@ pub fn number_of(hard: &[u32]) -> usize
     hard[0] as usize
 }
 
-// The polynomial at a place of the list, from 0.
+// The polynomial at a place of the list, from 0. It is for the crates `step` and `listing`, who have tested the place.
 pub fn polynomial_at(hard: &[u32], i: usize) -> &[u32]
     requires { ⌜ HardFits (now hard) × (i < length (hardIn (now hard))) ⌝ }
     ensures { λ r. ⌜ now r ≡ getD (hardIn (now (hard .entry))) i [] ⌝ }
@@ -32,7 +32,8 @@ pub fn polynomial_at(hard: &[u32], i: usize) -> &[u32]
 // Puts a polynomial at the end of the list. It is for the crate `problem`, which has tested that there is room.
 pub fn append(hard: &mut [u32], f: &[u32])
     requires { ⌜ HardFits (now hard) × (length (hardIn (now hard)) < 16) × (length (now f) ≤ 64) ⌝ }
-    ensures { λ _. ⌜ ((n : ℕ) (H : List (List ℕ)) → T (isHardList n H) → now (hard .entry) ≡ runOf H → now (hard .exit) ≡ runOf (H ++ (now (f .entry) ∷ []))) ⌝ }
+    ensures { λ _. let g = now (f .entry) in
+        ⌜ ((n : ℕ) (H : List (List ℕ)) → T (isHardList n H) → now (hard .entry) ≡ runOf H → now (hard .exit) ≡ runOf (H ++ (g ∷ []))) ⌝ }
 {
     let number = hard[0];
     let i = number as usize;

@@ -16,9 +16,10 @@ use example::text::held;
 use files::read_file;
 use memory::Entry;
 use memory::Head;
+use step::Move;
 
-// What goes from one call to the next: the head and the records, and what the last call said. The term area is lent apart, unlike in
-// `example::state`, so that no copies of it are timed.
+// What goes from one call to the next: the head and the records, and what the last call said. The other areas are lent apart, unlike
+// in `example::state`, so that no copies of them are timed.
 struct Lent {
     head: Head,
     entries: [Entry; 129],
@@ -30,6 +31,7 @@ impl Lent {
         head: Head {
             variables: 0,
             lines: 0,
+            hard: 0,
         },
         entries: [Entry {
             weight: 0,
@@ -39,9 +41,15 @@ impl Lent {
     };
 
     // Files a problem.
-    fn file(self, problem: &[u8], terms: &mut [u32]) -> Lent {
+    fn file(
+        self,
+        problem: &[u8],
+        terms: &mut [u32],
+        counts: &mut [u32],
+        places: &mut [u32],
+    ) -> Lent {
         let entries = self.entries;
-        let filing = file_problem(problem, terms, entries, 128);
+        let filing = file_problem(problem, terms, entries, 128, counts, places);
         let entries = filing.entries;
         let told = filing.filed;
         let head = told.head;
@@ -55,9 +63,9 @@ impl Lent {
     }
 
     // Checks a derivation.
-    fn check(self, steps: &[u8], terms: &mut [u32]) -> Lent {
+    fn check(self, steps: &[u8], terms: &mut [u32], counts: &[u32], places: &[u32]) -> Lent {
         let entries = self.entries;
-        let check = check_derivation(steps, self.head, terms, entries, 128);
+        let check = check_derivation(steps, self.head, terms, entries, 128, counts, places);
         let entries = check.entries;
         let told = check.checked;
         let head = told.head;
@@ -71,20 +79,25 @@ impl Lent {
     }
 
     // Takes a step, the SUM of x1 and 1: a line comes or goes.
-    fn step(self, amount: i64, terms: &mut [u32]) -> Lent {
+    fn step(self, amount: i64, terms: &mut [u32], counts: &[u32], places: &[u32]) -> Lent {
         let entries = self.entries;
         let x1 = [1u32];
         let one = [0u32];
+        let asked = Move {
+            rule: Rule::Sum,
+            mode: Mode::Signed,
+            amount,
+        };
         let step = take_step(
             self.head,
             terms,
             entries,
             128,
-            Rule::Sum,
-            Mode::Signed,
+            counts,
+            places,
             &x1,
             &one,
-            amount,
+            asked,
         );
         let entries = step.entries;
         let told = step.stepped;
@@ -100,25 +113,41 @@ impl Lent {
 }
 
 // One call.
-fn call(kind: u8, problem: &[u8], steps: &[u8], terms: &mut [u32], lent: Lent) -> Lent {
+fn call(
+    kind: u8,
+    problem: &[u8],
+    steps: &[u8],
+    terms: &mut [u32],
+    counts: &mut [u32],
+    places: &mut [u32],
+    lent: Lent,
+) -> Lent {
     if kind == b'F' {
-        return lent.file(problem, terms);
+        return lent.file(problem, terms, counts, places);
     }
     if kind == b'C' {
-        return lent.check(steps, terms);
+        return lent.check(steps, terms, counts, places);
     }
     if kind == b'S' {
-        return lent.step(1, terms);
+        return lent.step(1, terms, counts, places);
     }
-    lent.step(-1, terms)
+    lent.step(-1, terms, counts, places)
 }
 
 // All calls in turn.
-fn call_all(calls: &[u8], problem: &[u8], steps: &[u8], terms: &mut [u32], lent: Lent) -> Lent {
+fn call_all(
+    calls: &[u8],
+    problem: &[u8],
+    steps: &[u8],
+    terms: &mut [u32],
+    counts: &mut [u32],
+    places: &mut [u32],
+    lent: Lent,
+) -> Lent {
     let mut lent = lent;
     let mut i: usize = 0;
     while i < calls.len() {
-        lent = call(calls[i], problem, steps, terms, lent);
+        lent = call(calls[i], problem, steps, terms, counts, places, lent);
         i += 1;
     }
     lent
@@ -127,10 +156,20 @@ fn call_all(calls: &[u8], problem: &[u8], steps: &[u8], terms: &mut [u32], lent:
 // All calls in turn, a thousand times: what the last one said.
 fn call_again(calls: &[u8], problem: &[u8], steps: &[u8]) -> Said {
     let mut terms = [0u32; 8192];
+    let mut counts = [0u32; 16];
+    let mut places = [0u32; 1024];
     let mut lent = Lent::NONE;
     let mut round: usize = 0;
     while round < 1000 {
-        lent = call_all(calls, problem, steps, &mut terms, lent);
+        lent = call_all(
+            calls,
+            problem,
+            steps,
+            &mut terms,
+            &mut counts,
+            &mut places,
+            lent,
+        );
         round += 1;
     }
     lent.said

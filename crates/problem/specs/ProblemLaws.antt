@@ -4,12 +4,11 @@ use mathlib.Core.Path.{_≡_, refl, sym, ap, ap₂, subst, _∙_}
 use mathlib.Core.Bool.{Bool, true, false, cond, not, _&&_, Bool·beq, true≢false}
 use mathlib.Core.List.{List, [], _∷_}
 use Prim.Native.Nat.{ℕ, zero, suc, _+_, _^_, _≤_, _<_}
-use native.Mathlib.Decide.{decLe}
 use native.Mathlib.Omega.{arith}
 use lib.Signed.{leZ}
 use lib.Dec.{le→leb, T, leb, leb→le, ltb, ltb→lt, nltb→le, eqb, eqb→eq}
 use lib.IntN.{ℤ, pos, negsuc, _+ℤ_, +ℤ-idl}
-use lib.ListN.{length, getD, List·getD-eq-default}
+use lib.ListN.{length, getD}
 use Rattle.refusal.specs.Refusal.{Refusal, numbered}
 use Rattle.refusal.specs.Outcome.{Outcome, accepted, refused, mapped, Told}
 use Rattle.run.specs.BooleanLaws.{bool-ext, is-true, of-true, not-both, both, cond-ind}
@@ -24,6 +23,7 @@ use Rattle.hard.specs.Hard.{allPolynomials, isHardList}
 use Rattle.hard.specs.HardLaws.{list-more}
 use Rattle.record.specs.Letters.{letterV, letterM, letterW, letterC, letterH}
 use Rattle.record.specs.Record.{whole, numberAt, signedAt}
+use Rattle.record.specs.RecordLaws.{within-bytes}
 use Rattle.walk.specs.Walk.{Progress, begun, past, walk, readAll}
 use Rattle.walk.specs.WalkLaws.{unless-ind, IfAccepted, walk-ind, walk-keeps}
 use Rattle.walk.specs.WorkLaws.{term-ind, term-sum}
@@ -35,14 +35,6 @@ use Rattle.run.specs.BooleanLaws as B
 use Rattle.polynomial.specs.PolynomialLaws as P
 
 -- ---- one record: what an accepted one passed, and what it files
--- a letter is read within the bytes
-within-bytes : (s : List ℕ) (i k : ℕ) → 0 < k → getD s i 0 ≡ k → i < length s
-within-bytes s i k h e = go (decLe (length s) i)
-  where
-    go : Dec (length s ≤ i) → i < length s
-    go (yes l) = let x : ⊥ = omega (arith, List·getD-eq-default s 0 {n = i} l) in absurd x
-    go (no l) = omega (arith, l)
-
 -- an item is taken in, within the limits
 module _ (R : Outcome (Progress State) → Type 0) (p : Progress State) (size : ℕ) (work f : List ℕ) (nay : (x : Refusal) → R (refused x)) where
   abbrev Then : Outcome Holding → Type 0

@@ -1,5 +1,5 @@
 -- Laws of records: k bytes make a number below 256 ^ k, every such number is read back from its k bytes, distinct numbers of 64 bits are distinct
--- signed numbers, and a body is the same in the first bytes, where it ends within them. Assumes nothing.
+-- signed numbers, a body is the same in the first bytes, where it ends within them, and a letter stands within the bytes. Assumes nothing.
 use mathlib.Core.Path.{_≡_, refl, sym, ap}
 use mathlib.Core.Bool.{Bool, true, false, cond}
 use mathlib.Core.List.{List, [], _∷_, _++_}
@@ -8,7 +8,7 @@ use native.Mathlib.Nat.{pow-zero, pow-succ'}
 use native.Mathlib.Omega.{arith}
 use lib.Dec.{T, leb, le→leb, ltb}
 use lib.IntN.{pos, negsuc, pos-ne-negsuc}
-use lib.ListN.{length, take}
+use lib.ListN.{length, getD, take}
 use lib.Seq.{length-take-le}
 use Rattle.record.specs.Record.{littleEndian, numberAt, signed, whole}
 
@@ -62,3 +62,9 @@ one-test false b h k = absurd h
 pub whole-take : (k a K : ℕ) (s : List ℕ) → a + k ≤ K → K ≤ length s → whole k (take K s) a ≡ whole k s a
 whole-take k a K s h l = one-test (leb (a + k) (length (take K s))) (leb (a + k) (length s))
     (le→leb (a + k) (length (take K s)) (omega (arith, length-take-le K s l))) (le→leb (a + k) (length s) (omega arith))
+
+-- a byte that is not 0 stands within the bytes
+pub within-bytes : (s : List ℕ) (i k : ℕ) → 0 < k → getD s i 0 ≡ k → i < length s
+within-bytes [] i k h e = let x : ⊥ = omega arith in absurd x
+within-bytes (b ∷ s) zero k h e = omega arith
+within-bytes (b ∷ s) (suc i) k h e = omega (arith, within-bytes s i k h e)

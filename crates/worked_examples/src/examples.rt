@@ -3,10 +3,13 @@ use crate::outcome::outcome;
 use crate::tally::finish;
 use crate::tally::judge;
 use example::item::AREAS;
+use example::item::END;
+use example::item::HARD_COUNT;
+use example::item::HARD_LENT;
+use example::item::HARD_TERM;
 use example::item::Item;
 use example::item::LINE;
 use example::item::RECORD;
-use example::item::SIGNED_PROD;
 use example::item::TERM;
 use example::item::item_at;
 use example::item::kind_at;
@@ -17,6 +20,7 @@ use example::operations::lined;
 use example::operations::operated;
 use example::state::State;
 use example::text::Text;
+use memory::Head;
 ghost use Prim.Native.Nat.{_≤_};
 ghost use lib.ListN.{length};
 
@@ -38,18 +42,37 @@ fn worked(data: &[u8], item: Item, before: State) -> State {
     judged(data, item, after, outcome(before, after))
 }
 
-// After the item at a place.
-fn turn(data: &[u8], at: usize, state: State) -> State {
-    let item = item_at(data, at);
+// After an item of what is lent.
+fn lent(data: &[u8], item: Item, state: State) -> State {
     if item.kind == AREAS {
-        return state.over(item.first, item.second, short_at(data, item.third));
+        let head = Head {
+            variables: item.first,
+            lines: item.second,
+            hard: item.third,
+        };
+        return state.over(head, short_at(data, item.fourth));
     }
     if item.kind == TERM {
         return state.with_term(item.first as usize, item.second);
     }
     if item.kind == RECORD {
-        let weight = signed_at(data, item.third);
+        let weight = signed_at(data, item.fourth);
         return state.with_record(item.first as usize, weight, item.second);
+    }
+    if item.kind == HARD_COUNT {
+        return state.with_hard_count(item.first as usize, item.second);
+    }
+    if item.kind == HARD_TERM {
+        return state.with_hard_term(item.first as usize, item.second);
+    }
+    state.with_hard_lent(item.first, item.second)
+}
+
+// After the item at a place.
+fn turn(data: &[u8], at: usize, state: State) -> State {
+    let item = item_at(data, at);
+    if item.kind <= HARD_LENT {
+        return lent(data, item, state);
     }
     worked(data, item, state)
 }
@@ -60,7 +83,7 @@ fn next_of(data: &[u8], at: usize) -> usize
 {
     let item = item_at(data, at);
     let next = item.next;
-    if item.kind <= SIGNED_PROD {
+    if item.kind < END {
         if next <= data.len() {
             return next;
         }

@@ -9,7 +9,7 @@ use files::read_file;
 
 // All examples. A file that is longer is cut, which is told.
 fn main() {
-    let mut data = [0u8; 131072];
+    let mut data = [0u8; 196608];
     let size = read_file(b"examples", &mut data);
     examples::work(&data[..size])
 }

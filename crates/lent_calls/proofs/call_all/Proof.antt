@@ -7,10 +7,11 @@ use Rattle.lent_calls.proofs.call_all.Statement.{statement}
 use Rattle.lent_calls.proofs.call_all.Tie as tie
 
 abbrev Inv-loop : tie.InvT-loop
-Inv-loop calls problem steps terms₀ lent₀ i₀ terms lent i = (i ≤ length calls) × (length terms ≡ length terms₀)
+Inv-loop calls problem steps terms₀ counts₀ places₀ lent₀ i₀ terms counts places lent i =
+    (i ≤ length calls) × (length terms ≡ length terms₀) × (length counts ≡ length counts₀) × (length places ≡ length places₀)
 
 abbrev μ-loop : tie.MeasureT-loop
-μ-loop calls problem steps terms₀ lent₀ i₀ terms lent i = length calls - i
+μ-loop calls problem steps terms₀ counts₀ places₀ lent₀ i₀ terms counts places lent i = length calls - i
 
 loop-holds : tie.Need-loop-holds Inv-loop μ-loop
 loop-holds c = search needs
@@ -33,6 +34,12 @@ loop-again c = search needs
 same-length : tie.Need-same-length Inv-loop μ-loop
 same-length c = search needs
 
+same-length-2 : tie.Need-same-length-2 Inv-loop μ-loop
+same-length-2 c = search needs
+
+same-length-3 : tie.Need-same-length-3 Inv-loop μ-loop
+same-length-3 c = search needs
+
 returns : tie.Need-returns Inv-loop μ-loop
 returns c = search needs
 
@@ -49,4 +56,6 @@ call-all-spec =
     loop-less
     loop-again
     same-length
+    same-length-2
+    same-length-3
     returns)

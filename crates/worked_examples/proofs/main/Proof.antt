@@ -10,7 +10,7 @@ slice-aggregate-read-file : tie.Need-slice-aggregate-read-file
 slice-aggregate-read-file c = search needs
 
 slice-aggregate-read-file-2 : tie.Need-slice-aggregate-read-file-2
-slice-aggregate-read-file-2 c = sym (length-replicate {A = ℕ} 131072 0)
+slice-aggregate-read-file-2 c = sym (length-replicate {A = ℕ} 196608 0)
 
 read-file-requires : tie.Need-read-file-requires
 read-file-requires c κs = tt

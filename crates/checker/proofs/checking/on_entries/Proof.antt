@@ -10,13 +10,12 @@ use Rattle.refusal.specs.Outcome.{Outcome, accepted, objected}
 use Rattle.refusal.specs.declared.Objection.{Objection}
 use Rattle.configuration.specs.Made.{Made}
 use Rattle.hard.specs.Hard.{hardOf}
-use Rattle.hard.specs.HardLaws.{formed-parts}
 use Rattle.memory.specs.Memory.{standingOf, backToBack}
 use Rattle.derivation.specs.Derivation.{Confirmation, checkDerivation, toldOfCheck}
 use Rattle.checker.specs.Checker.{Lent, lentOf, leftOf, leftBy, lentFormed, checkUnder, checkIn}
-use Rattle.checker.specs.CheckerLaws.{formed-memory, formed-hard}
+use Rattle.checker.specs.CheckerLaws.{formed-memory}
 use Rattle.checker.specs.declared.Checked.{Checked}
-use Rattle.checker.proofs.Outcomes.{admitted-as, well, run-is, run-well, run-list}
+use Rattle.checker.proofs.Outcomes.{admitted-as, well, areas-long, run-is, run-well, run-list}
 use Rattle.checker.proofs.checking.on_entries.Statement.{statement}
 use Rattle.checker.proofs.checking.on_entries.Tie as tie
 
@@ -66,9 +65,7 @@ formed c = well (lent (c .before .before .before .before .before .before .before
 
 gather-requires : tie.Need-gather-requires
 gather-requires c κs =
-    let s = c .before .before .before .before .before .before .before .before .before in
-    let q = formed-parts (s .args .head .variables) (lent s .hard) (formed-hard backToBack (lent s) (formed (c .before))) in
-    (q .counts-length, q .places-length, length-replicate {A = ℕ} 1041 0)
+    let q = areas-long (lent (c .before .before .before .before .before .before .before .before .before)) (formed (c .before)) in (q .0, q .1, length-replicate {A = ℕ} 1041 0)
 
 slice-aggregate-checked : tie.Need-slice-aggregate-checked
 slice-aggregate-checked c = search needs

@@ -13,16 +13,15 @@ use Rattle.refusal.specs.declared.Objection.{Objection}
 use Rattle.configuration.specs.Configuration.{Line, isPolynomial}
 use Rattle.configuration.specs.Made.{Made}
 use Rattle.hard.specs.Hard.{hardOf}
-use Rattle.hard.specs.HardLaws.{formed-parts}
 use Rattle.hard.specs.Working.{hardIn}
 use Rattle.memory.specs.Memory.{standingOf, backToBack}
 use Rattle.calculus.specs.Calculus.{operandTests, step, directStep}
 use Rattle.calculus.specs.CalculusLaws.{operands-passed}
 use Rattle.step.specs.SteppingLaws.{polynomial-operand}
 use Rattle.checker.specs.Checker.{Lent, lentOf, Left, leftOf, stepped, leftBy, lentFormed, stepUnder, stepIn, toldOfStep}
-use Rattle.checker.specs.CheckerLaws.{formed-memory, formed-hard}
+use Rattle.checker.specs.CheckerLaws.{formed-memory}
 use Rattle.checker.specs.declared.Stepped.{Stepped}
-use Rattle.checker.proofs.Outcomes.{admitted-as, well, run-is, run-well}
+use Rattle.checker.proofs.Outcomes.{admitted-as, well, areas-long, run-is, run-well}
 use Rattle.checker.proofs.stepping.on_entries.Statement.{statement}
 use Rattle.checker.proofs.stepping.on_entries.Tie as tie
 
@@ -119,9 +118,7 @@ slice-aggregate-gather c = search needs
 
 gather-requires : tie.Need-gather-requires
 gather-requires c κs =
-    let s = c .before .before .before .before .before .before .before .before .before .before .before .before .before in
-    let q = formed-parts (s .args .head .variables) (lent s .hard) (formed-hard backToBack (lent s) (formed (c .before .before .before .before))) in
-    (q .counts-length, q .places-length, length-replicate {A = ℕ} 1041 0)
+    let q = areas-long (lent (c .before .before .before .before .before .before .before .before .before .before .before .before .before)) (formed (c .before .before .before .before)) in (q .0, q .1, length-replicate {A = ℕ} 1041 0)
 
 slice-aggregate-taken : tie.Need-slice-aggregate-taken
 slice-aggregate-taken c = search needs

@@ -12,13 +12,13 @@ use Rattle.refusal.specs.Outcome.{Outcome, unless, objected}
 use Rattle.refusal.specs.OutcomeLaws.{unless-fails, unless-passes}
 use Rattle.refusal.specs.declared.Objection.{Objection}
 use Rattle.hard.specs.Hard.{hardOf}
-use Rattle.hard.specs.HardLaws.{formed-parts, formed-number}
+use Rattle.hard.specs.HardLaws.{formed-number}
 use Rattle.hard.specs.Working.{hardIn}
 use Rattle.memory.specs.Memory.{standingOf, backToBack}
 use Rattle.listing.specs.Listing.{textOf}
 use Rattle.checker.specs.Checker.{Lent, lentOf, lentFormed, Written, writtenBy, fitting, writeUnder, writeIn}
 use Rattle.checker.specs.CheckerLaws.{formed-memory, formed-hard}
-use Rattle.checker.proofs.Outcomes.{admitted-as, well, run-is, run-well}
+use Rattle.checker.proofs.Outcomes.{admitted-as, well, areas-long, run-is, run-well}
 use Rattle.checker.proofs.writing.from_entries.Statement.{statement}
 use Rattle.checker.proofs.writing.from_entries.Tie as tie
 
@@ -86,9 +86,7 @@ slice-aggregate-gather c = search needs
 
 gather-requires : tie.Need-gather-requires
 gather-requires c κs =
-    let s = c .before .before .before .before .before .before .before .before .before .before .before in
-    let q = formed-parts (s .args .head .variables) (lent s .hard) (formed-hard backToBack (lent s) (formed (c .before .before .before .before))) in
-    (q .counts-length, q .places-length, length-replicate {A = ℕ} 1041 0)
+    let q = areas-long (lent (c .before .before .before .before .before .before .before .before .before .before .before)) (formed (c .before .before .before .before)) in (q .0, q .1, length-replicate {A = ℕ} 1041 0)
 
 slice-aggregate-written : tie.Need-slice-aggregate-written
 slice-aggregate-written c = search needs

@@ -11,6 +11,18 @@ slice-aggregate-front c = search needs
 front-requires : tie.Need-front-requires
 front-requires c κs = search needs
 
+slice-aggregate-front-2 : tie.Need-slice-aggregate-front-2
+slice-aggregate-front-2 c = search needs
+
+front-requires-2 : tie.Need-front-requires-2
+front-requires-2 c κs = search needs
+
+slice-aggregate-front-3 : tie.Need-slice-aggregate-front-3
+slice-aggregate-front-3 c = search needs
+
+front-requires-3 : tie.Need-front-requires-3
+front-requires-3 c κs = search needs
+
 cast-at-most : tie.Need-cast-at-most
 cast-at-most c = search needs
 
@@ -50,6 +62,10 @@ line-spec =
     (tie.spec
     slice-aggregate-front
     front-requires
+    slice-aggregate-front-2
+    front-requires-2
+    slice-aggregate-front-3
+    front-requires-3
     cast-at-most
     at-most-requires
     at-most-requires-2

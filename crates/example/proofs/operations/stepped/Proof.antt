@@ -23,6 +23,15 @@ at-most-requires c κs = search needs
 at-most-requires-2 : tie.Need-at-most-requires-2
 at-most-requires-2 c κs = search needs
 
+rule-of-requires : tie.Need-rule-of-requires
+rule-of-requires c κs = search needs
+
+mode-of-requires : tie.Need-mode-of-requires
+mode-of-requires c κs = search needs
+
+signed-at-requires : tie.Need-signed-at-requires
+signed-at-requires c κs = search needs
+
 array-share-prefix-a : tie.Need-array-share-prefix-a
 array-share-prefix-a c = search needs
 
@@ -34,9 +43,6 @@ array-share-prefix-b c = search needs
 
 slice-aggregate-step-2 : tie.Need-slice-aggregate-step-2
 slice-aggregate-step-2 c = simp length-take (omega arith)
-
-signed-at-requires : tie.Need-signed-at-requires
-signed-at-requires c κs = search needs
 
 step-requires : tie.Need-step-requires
 step-requires c κs = search needs
@@ -54,10 +60,12 @@ stepped-spec =
     terms-of-requires-2
     at-most-requires
     at-most-requires-2
+    rule-of-requires
+    mode-of-requires
+    signed-at-requires
     array-share-prefix-a
     slice-aggregate-step
     array-share-prefix-b
     slice-aggregate-step-2
-    signed-at-requires
     step-requires
     returns)

@@ -5,10 +5,10 @@ use Rattle.worked_examples.proofs.outcome.outcome.Statement.{statement}
 use Rattle.worked_examples.proofs.outcome.outcome.Tie as tie
 
 abbrev Inv-loop : tie.InvT-loop
-Inv-loop after text₀ lines number₀ text number = lines < 4294967296
+Inv-loop after text₀ hard lines number₀ text number = (hard < 4294967296) × (lines < 4294967296)
 
 abbrev μ-loop : tie.MeasureT-loop
-μ-loop after text₀ lines number₀ text number = lines + 1 - number
+μ-loop after text₀ hard lines number₀ text number = hard + lines + 1 - number
 
 text-of-requires : tie.Need-text-of-requires Inv-loop μ-loop
 text-of-requires c κs = search needs
@@ -22,11 +22,17 @@ returns c = search needs
 with-byte-requires : tie.Need-with-byte-requires Inv-loop μ-loop
 with-byte-requires c κs = search needs
 
+cast-hard : tie.Need-cast-hard Inv-loop μ-loop
+cast-hard c = search needs
+
 cast-lines : tie.Need-cast-lines Inv-loop μ-loop
 cast-lines c = search needs
 
 loop-holds : tie.Need-loop-holds Inv-loop μ-loop
 loop-holds c = search needs
+
+add-loop : tie.Need-add-loop Inv-loop μ-loop
+add-loop c = search needs
 
 with-line-requires : tie.Need-with-line-requires Inv-loop μ-loop
 with-line-requires c κs = search needs
@@ -56,8 +62,10 @@ outcome-spec =
     same-requires
     returns
     with-byte-requires
+    cast-hard
     cast-lines
     loop-holds
+    add-loop
     with-line-requires
     returns-2
     following-requires
