@@ -35,7 +35,7 @@ accepted-filing s x e = go (lentSized x) refl
     go true h = file-sized backToBack s x h
     go false h = absurd (not-refusal (sym e ∙ ap (λ (y : Left (Unit {0})). y .told) (file-unsized backToBack s x h)))
 
--- the number of variables and the hard list that a filing leaves
+-- the number of variables that a filing leaves
 abbrev pub variablesOf : Left (Unit {0}) → ℕ
 variablesOf a = a .lent .memory .variables
 

@@ -6,7 +6,7 @@ use native.Mathlib.Numerals.{add-one}
 use native.Mathlib.Omega.{arith}
 use lib.Dec.{T, leb}
 use lib.ListN.{length, take, drop, set, replicate, length-set, length-append, length-map, length-replicate, replicate-append-replicate}
-use lib.Seq.{append-snoc, take-at, drop-append-add, take-append-add, set-at, set-append-left, drop-at, drop-drop}
+use lib.Seq.{append-snoc, take-at, drop-append-add, take-append-add, set-at, set-append-left, drop-at}
 use Rattle.run.specs.BooleanLaws.{right}
 use Rattle.hard.specs.Hard.{allPolynomials, isHardList, placesOf, laidHard, hardImage}
 use Rattle.hard.specs.HardLaws.{length-laid, counts-sixteen}

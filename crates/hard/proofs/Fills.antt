@@ -1,9 +1,9 @@
 -- A run that is filled, part by part.
-use mathlib.Core.Path.{_≡_, refl, sym, ap, ap₂, _∙_}
+use mathlib.Core.Path.{_≡_, refl, ap, ap₂, _∙_}
 use mathlib.Core.List.{List, [], _∷_, _++_, append-nil}
-use Prim.Native.Nat.{ℕ, suc, _+_, _≤_}
+use Prim.Native.Nat.{ℕ, _+_, _≤_}
 use native.Mathlib.Omega.{arith}
-use lib.ListN.{length, set, take, drop, length-append, drop-of-length-le}
+use lib.ListN.{length, set, take, drop, drop-of-length-le}
 use lib.Seq.{take-at}
 
 -- an area that a run fills

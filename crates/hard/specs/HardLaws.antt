@@ -1,6 +1,6 @@
 -- Laws of the hard list: what holds of each polynomial of a list that can be held; a list and its area; a well-formed area is that of the list that it holds.
-use mathlib.Core.Path.{_≡_, refl, sym, ap, ap₂, subst, _∙_}
-use mathlib.Core.Bool.{Bool, true, false, not, _&&_}
+use mathlib.Core.Path.{_≡_, refl, sym, ap, ap₂, _∙_}
+use mathlib.Core.Bool.{true, false, not, _&&_}
 use mathlib.Core.List.{List, [], _∷_, _++_, map, append-assoc}
 use Prim.Native.Nat.{ℕ, zero, suc, _+_, _-_, _*_, _≤_, _<_}
 use native.Mathlib.Nat.{le-of-suc-le-suc, not-suc-le-zero}
@@ -8,9 +8,9 @@ use native.Mathlib.Numerals.{unary-clauses}
 use native.Mathlib.Omega.{arith}
 use lib.Dec.{T, leb, leb→le, le→leb, eqb, eqb→eq}
 use lib.ListN.{length, getD, take, drop, replicate, length-append, length-map, length-drop, length-take, length-replicate, take-append-drop}
-use lib.Seq.{take-at, drop-at, take-append-seam, drop-append-seam, length-take-le, drop-drop, drop-nil}
+use lib.Seq.{take-at, drop-at, take-append-seam, drop-append-seam, length-take-le, drop-drop}
 use borrow.Author.Tests.{not-true}
-use Rattle.run.specs.BooleanLaws.{left, right, both, is-true, eq→eqb, eqb-self}
+use Rattle.run.specs.BooleanLaws.{left, right, both, is-true, eq→eqb}
 use Rattle.polynomial.specs.Polynomial.{ZERO, eval}
 use Rattle.configuration.specs.Area.{zeros}
 use Rattle.configuration.specs.AreaLaws.{zeros-replicate, replicate-zeros}

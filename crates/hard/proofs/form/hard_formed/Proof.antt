@@ -1,5 +1,4 @@
 -- `hard_formed` meets its contract: each test is one that the definition joins.
-use mathlib.Core.Path.{_≡_, sym}
 use lib.ListN.{length}
 use denote.Ref.{now}
 use borrow.Author.Needs.{needs}
