@@ -1,5 +1,4 @@
 pub mod Checker
-pub mod Lent
 pub mod CheckerLaws
 pub mod Lengths
 pub mod StepTests

@@ -4,7 +4,7 @@ ghost use Rattle.refusal.specs.Outcome.{accepted};
 ghost use Rattle.derivation.specs.Derivation.{told_of_check, check_derivation};
 ghost use Rattle.hard.specs.Hard.{is_hard_list};
 ghost use Rattle.hard.specs.Working.{hard_in, HardFits};
-ghost use Rattle.memory.specs.Memory.{back_to_back, memory_at, memory_before, standing_of, well_formed};
+ghost use Rattle.memory.specs.Memory.{back_to_back, standing_of, well_formed, memory_of};
 ghost use Rattle.checker.specs.Checker.{lent_of, left_of, left_by, check_in};
 
 use crate::Checked;
@@ -46,8 +46,8 @@ pub fn unfit(head: Head) -> Checked
 // what is lent.
 fn checked(bytes: &[u8], head: Head, terms: &mut [u32], entries: [Entry; 128], hard: &[u32]) -> Done
     requires { let H = hard_in hard.now in
-        T (well_formed (memory_at head terms entries)) × HardFits hard.now × T (is_hard_list head.variables H) }
-    ensures { let m = memory_before head terms entries in
+        T (well_formed (memory_of head terms.old entries)) × HardFits hard.now × T (is_hard_list head.variables H) }
+    ensures { let m = memory_of head terms.old entries in
         let x = check_derivation bytes.now m.variables (hard_in hard.now) (standing_of m) in
         ((cs ps : List ℕ) → left_of (lent_of result.checked.head terms.new result.entries cs ps) (told_of_check result.checked.answer)
         ≡ left_by back_to_back (lent_of head terms.old entries cs ps) (accepted x)) }

@@ -8,8 +8,7 @@ mod writing;
 ghost use Rattle.std.specs.Prelude.{◌≡◌};
 ghost use Rattle.problem.specs.Problem.{told_of_filing};
 ghost use Rattle.derivation.specs.Derivation.{told_of_check};
-ghost use Rattle.checker.specs.Lent.{lent_before, lent_after, lent_read};
-ghost use Rattle.checker.specs.Checker.{no_head, left_of, step_in, check_in, file_in, write_in, told_of_step, told_of_line};
+ghost use Rattle.checker.specs.Checker.{no_head, left_of, step_in, check_in, file_in, write_in, told_of_step, told_of_line, lent_of};
 
 use calculus::{Mode, Rule};
 use derivation::CheckAnswer;
@@ -66,8 +65,8 @@ pub fn take_step(
     g: &[u32],
     amount: i64,
 ) -> Stepped
-    ensures { left_of (lent_read result.head terms table counts places) (told_of_step result.answer)
-        ≡ step_in rule mode f.now g.now amount (lent_before head terms table counts places) }
+    ensures { left_of (lent_of result.head terms.new table.new counts.now places.now) (told_of_step result.answer)
+        ≡ step_in rule mode f.now g.now amount (lent_of head terms.old table.old counts.now places.now) }
 {
     if table.len() != 128 {
         return stepping::unfit(head);
@@ -90,8 +89,8 @@ pub fn check_derivation(
     counts: &[u32],
     places: &[u32],
 ) -> Checked
-    ensures { left_of (lent_read result.head terms table counts places) (told_of_check result.answer)
-        ≡ check_in bytes.now (lent_before head terms table counts places) }
+    ensures { left_of (lent_of result.head terms.new table.new counts.now places.now) (told_of_check result.answer)
+        ≡ check_in bytes.now (lent_of head terms.old table.old counts.now places.now) }
 {
     if table.len() != 128 {
         return checking::unfit(head);
@@ -111,8 +110,8 @@ pub fn file_problem(
     counts: &mut [u32],
     places: &mut [u32],
 ) -> Filed
-    ensures { left_of (lent_after result.head terms table counts places) (told_of_filing result.answer)
-        ≡ file_in bytes.now (lent_before no_head terms table counts places) }
+    ensures { left_of (lent_of result.head terms.new table.new counts.new places.new) (told_of_filing result.answer)
+        ≡ file_in bytes.now (lent_of no_head terms.old table.old counts.old places.old) }
 {
     if table.len() != 128 {
         return filing::unfit();
@@ -134,8 +133,8 @@ pub fn write_line(
     places: &[u32],
     number: usize,
 ) -> LineAnswer
-    ensures { record { area = area.exit.now; told = told_of_line result }
-        ≡ write_in number (lent_before head terms table counts places) area.entry.now }
+    ensures { record { area = area.new; told = told_of_line result }
+        ≡ write_in number (lent_of head terms.now table.now counts.now places.now) area.old }
 {
     if table.len() != 128 {
         return writing::unfit();

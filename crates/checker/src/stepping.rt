@@ -3,7 +3,7 @@ ghost use Rattle.std.specs.Prelude.{◌≡◌, List, ℕ, T};
 ghost use Rattle.refusal.specs.Outcome.{mapped};
 ghost use Rattle.calculus.specs.Calculus.{step as step_of};
 ghost use Rattle.hard.specs.Working.{hard_in, HardFits};
-ghost use Rattle.memory.specs.Memory.{back_to_back, memory_at, memory_before, standing_of, well_formed};
+ghost use Rattle.memory.specs.Memory.{back_to_back, standing_of, well_formed, memory_of};
 ghost use Rattle.step.specs.Stepping.{IsOperand};
 ghost use Rattle.checker.specs.Checker.{lent_of, left_of, left_by, stepped, step_in, told_of_step};
 
@@ -54,8 +54,8 @@ fn taken(
     g: &[u32],
     asked: Move,
 ) -> Done
-    requires { T (well_formed (memory_at head terms entries)) × HardFits hard.now × IsOperand f.now × IsOperand g.now }
-    ensures { let m = memory_before head terms entries in let H = hard_in hard.now in
+    requires { T (well_formed (memory_of head terms.old entries)) × HardFits hard.now × IsOperand f.now × IsOperand g.now }
+    ensures { let m = memory_of head terms.old entries in let H = hard_in hard.now in
         let o = step_of H asked.rule asked.mode f.now g.now asked.amount (standing_of m) in
         ((cs ps : List ℕ) → left_of (lent_of result.stepped.head terms.new result.entries cs ps) (told_of_step result.stepped.answer)
         ≡ left_by back_to_back (lent_of head terms.old entries cs ps) (mapped (stepped m.variables) o)) }

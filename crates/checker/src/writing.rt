@@ -2,7 +2,7 @@
 ghost use Rattle.std.specs.Prelude.{◌≡◌, ◌+◌, ◌≤◌, T, length};
 ghost use Rattle.hard.specs.Working.{hard_in, HardFits};
 ghost use Rattle.listing.specs.Listing.{text_of};
-ghost use Rattle.memory.specs.Memory.{memory_at, memory_before, standing_of, well_formed};
+ghost use Rattle.memory.specs.Memory.{standing_of, well_formed, memory_of};
 ghost use Rattle.checker.specs.Checker.{lent_of, written_by, fitting, write_in, told_of_line};
 
 use crate::LineAnswer;
@@ -32,10 +32,10 @@ fn written(
     hard: &[u32],
     number: usize,
 ) -> LineAnswer
-    requires { T (well_formed (memory_at head terms entries)) × HardFits hard.now × (number ≤ length (hard_in hard.now) + head.lines) }
-    ensures { let m = memory_before head terms entries in let a = area.entry.now in
+    requires { T (well_formed (memory_of head terms.now entries)) × HardFits hard.now × (number ≤ length (hard_in hard.now) + head.lines) }
+    ensures { let m = memory_of head terms.now entries in let a = area.old in
         let text = text_of number m.variables (hard_in hard.now) (standing_of m) in
-        record { area = area.exit.now; told = told_of_line result } ≡ written_by a (fitting a text) }
+        record { area = area.new; told = told_of_line result } ≡ written_by a (fitting a text) }
 {
     let mut order = fresh_order();
     let mut rows = [0u32; 8192];
@@ -80,7 +80,7 @@ pub fn from_entries(
     number: usize,
 ) -> LineAnswer
     ensures { let x = lent_of head terms.now entries counts.now places.now in
-        record { area = area.exit.now; told = told_of_line result } ≡ write_in number x area.entry.now }
+        record { area = area.new; told = told_of_line result } ≡ write_in number x area.old }
 {
     if let Objection::Found(reason) = object(head, terms, entries, counts, places) {
         return LineAnswer::Refused(0, reason);

@@ -3,7 +3,7 @@ ghost use Rattle.std.specs.Prelude.{◌≡◌, ◌&&◌, not, List, ℕ, ◌+◌
 ghost use Rattle.polynomial.specs.Polynomial.{ZERO, ONE, IsOrdered};
 ghost use Rattle.configuration.specs.Configuration.{weight};
 ghost use Rattle.hard.specs.Working.{hard_in, HardFits};
-ghost use Rattle.table.specs.Rows.{Table, table_at, table_before, table_after, lines_of, Fits};
+ghost use Rattle.table.specs.Rows.{Table, table_at, lines_of, Fits};
 ghost use Rattle.derivation.specs.Derivation.{claim_fits, on_mode, on_term, on_choice, on_step, on_hard, on_claim};
 ghost use Rattle.derivation.specs.Held.{progress_in, passed, closing, Held, IsUsable, step_asked, Does};
 
@@ -167,12 +167,12 @@ fn taken(
     asked: Move,
     size: usize,
 ) -> Recorded
-    requires { let t = table_at p.lines order terms weights counts in let fs = first.now in let us = work.now in
+    requires { let t = table_at p.lines order.old terms.old weights.old counts.old in let fs = first.now in let us = work.now in
         Held p fs us t × IsUsable (hard_in hard.now) (progress_in p fs us t).state × HardFits hard.now
         × (0 < size) × (p.at + size < 18446744073709551616) }
-    ensures { let fs = first.now in let us = work.now in let t = table_before p.lines order terms weights counts in
+    ensures { let fs = first.now in let us = work.now in let t = table_at p.lines order.old terms.old weights.old counts.old in
         let on = step_asked (hard_in hard.now) asked size in
-        Does on p fs us t result fs us (table_after result.progress.lines order terms weights counts) }
+        Does on p fs us t result fs us (table_at result.progress.lines order.new terms.new weights.new counts.new) }
 {
     let m = p.first;
     let n = p.work;
@@ -210,11 +210,11 @@ pub fn on_step(
     counts: &mut [u32],
     rule: Rule,
 ) -> Recorded
-    requires { let t = table_at p.lines order terms weights counts in let fs = first.now in let us = work.now in
+    requires { let t = table_at p.lines order.old terms.old weights.old counts.old in let fs = first.now in let us = work.now in
         (p.at < length bytes.now) × Held p fs us t × IsUsable (hard_in hard.now) (progress_in p fs us t).state × HardFits hard.now }
-    ensures { let fs = first.now in let us = work.now in let t = table_before p.lines order terms weights counts in
+    ensures { let fs = first.now in let us = work.now in let t = table_at p.lines order.old terms.old weights.old counts.old in
         let on = on_step (hard_in hard.now) rule bytes.now in
-        Does on p fs us t result fs us (table_after result.progress.lines order terms weights counts) }
+        Does on p fs us t result fs us (table_at result.progress.lines order.new terms.new weights.new counts.new) }
 {
     if !can_step(p) {
         return refused(p, Reason::Misplaced);
@@ -241,11 +241,11 @@ pub fn on_hard(
     weights: &mut [i64],
     counts: &mut [u32],
 ) -> Recorded
-    requires { let t = table_at p.lines order terms weights counts in let fs = first.now in let us = work.now in
+    requires { let t = table_at p.lines order.old terms.old weights.old counts.old in let fs = first.now in let us = work.now in
         (p.at < length bytes.now) × Held p fs us t × IsUsable (hard_in hard.now) (progress_in p fs us t).state × HardFits hard.now }
-    ensures { let fs = first.now in let us = work.now in let t = table_before p.lines order terms weights counts in
+    ensures { let fs = first.now in let us = work.now in let t = table_at p.lines order.old terms.old weights.old counts.old in
         let on = on_hard (hard_in hard.now) bytes.now in
-        Does on p fs us t result fs us (table_after result.progress.lines order terms weights counts) }
+        Does on p fs us t result fs us (table_at result.progress.lines order.new terms.new weights.new counts.new) }
 {
     if !can_step(p) {
         return refused(p, Reason::Misplaced);
@@ -300,8 +300,8 @@ fn closed_with(p: Progress, claim: i64) -> Recorded
 
 // The weight of the polynomial 1.
 fn weight_of_one(lines: usize, order: &[u64], terms: &[u32], weights: &[i64], counts: &[u32]) -> i64
-    requires { Fits 128 (table_at lines order terms weights counts) }
-    ensures { result ≡ weight (lines_of (table_before lines order terms weights counts)) ONE }
+    requires { Fits 128 (table_at lines order.now terms.now weights.now counts.now) }
+    ensures { result ≡ weight (lines_of (table_at lines order.now terms.now weights.now counts.now)) ONE }
 {
     let one = Polynomial::ONE;
     weight_of(
@@ -323,8 +323,8 @@ pub fn on_claim(
     weights: &[i64],
     counts: &[u32],
 ) -> Recorded
-    requires { (p.at < length bytes.now) × (p.records ≤ p.at) × Fits 128 (table_at p.lines order terms weights counts) }
-    ensures { let t = table_before p.lines order terms weights counts in
+    requires { (p.at < length bytes.now) × (p.records ≤ p.at) × Fits 128 (table_at p.lines order.now terms.now weights.now counts.now) }
+    ensures { let t = table_at p.lines order.now terms.now weights.now counts.now in
         ((fs us : List ℕ) → Does (on_claim bytes.now) p fs us t result fs us t) }
 {
     if !is_idle(p) {

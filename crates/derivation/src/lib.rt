@@ -8,7 +8,7 @@ ghost use Rattle.refusal.specs.Outcome.{nothing, refused_for};
 ghost use Rattle.configuration.specs.Configuration.{is_configuration};
 ghost use Rattle.hard.specs.Hard.{is_hard_list};
 ghost use Rattle.hard.specs.Working.{hard_in, HardFits};
-ghost use Rattle.table.specs.Rows.{table_at, table_before, table_after, lines_of, Fits, made_in};
+ghost use Rattle.table.specs.Rows.{table_at, lines_of, Fits, made_in};
 ghost use Rattle.walk.specs.Walk.{verdict};
 ghost use Rattle.derivation.specs.Derivation.{on_record, check_derivation, told_of_check};
 ghost use Rattle.derivation.specs.Held.{kind_of, progress_in, opening_of, first_degree, Held, IsUsable, Does};
@@ -101,11 +101,11 @@ fn on_record(
     weights: &mut [i64],
     counts: &mut [u32],
 ) -> Recorded
-    requires { let t = table_at p.lines order terms weights counts in let fs = first.old in let us = work.old in
+    requires { let t = table_at p.lines order.old terms.old weights.old counts.old in let fs = first.old in let us = work.old in
         (p.at < length bytes.now) × Held p fs us t × IsUsable (hard_in hard.now) (progress_in p fs us t).state × HardFits hard.now }
     ensures { let on = on_record variables (hard_in hard.now) bytes.now in
-        let u = table_after result.progress.lines order terms weights counts in
-        Does on p first.old work.old (table_before p.lines order terms weights counts) result first.new work.new u }
+        let u = table_at result.progress.lines order.new terms.new weights.new counts.new in
+        Does on p first.old work.old (table_at p.lines order.old terms.old weights.old counts.old) result first.new work.new u }
 {
     let at = p.at;
     let kind = kind_of(bytes[at]);
@@ -167,11 +167,11 @@ pub fn check_derivation(
     weights: &mut [i64],
     counts: &mut [u32],
 ) -> Check
-    requires { let t = table_at lines order terms weights counts in
+    requires { let t = table_at lines order.old terms.old weights.old counts.old in
         HardFits hard.now × T (is_hard_list variables (hard_in hard.now)) × Fits 128 t × T (is_configuration variables (lines_of t)) }
-    ensures made { made_in variables (table_after result.lines order terms weights counts) (told_of_check result.answer)
-        ≡ check_derivation bytes.now variables (hard_in hard.now) (lines_of (table_before lines order terms weights counts)) }
-    ensures fits { Fits 128 (table_after result.lines order terms weights counts) }
+    ensures made { made_in variables (table_at result.lines order.new terms.new weights.new counts.new) (told_of_check result.answer)
+        ≡ check_derivation bytes.now variables (hard_in hard.now) (lines_of (table_at lines order.old terms.old weights.old counts.old)) }
+    ensures fits { Fits 128 (table_at result.lines order.new terms.new weights.new counts.new) }
 {
     let zero = Polynomial::ZERO;
     let mut first = zero.terms;

@@ -1,7 +1,7 @@
 // The code of a listing.
 ghost use Rattle.std.specs.Prelude.{◌≡◌};
 ghost use Rattle.hard.specs.Working.{hard_in, HardFits};
-ghost use Rattle.table.specs.Rows.{table_at, table_before, lines_of, Fits};
+ghost use Rattle.table.specs.Rows.{table_at, lines_of, Fits};
 ghost use Rattle.listing.specs.Code.{code_of};
 
 use crate::put_text;
@@ -19,8 +19,8 @@ pub fn code_of(
     weights: &[i64],
     counts: &[u32],
 ) -> u64
-    requires { HardFits hard.now × Fits 128 (table_at lines order terms weights counts) }
-    ensures { result ≡ code_of variables (hard_in hard.now) (lines_of (table_before lines order terms weights counts)) }
+    requires { HardFits hard.now × Fits 128 (table_at lines order.now terms.now weights.now counts.now) }
+    ensures { result ≡ code_of variables (hard_in hard.now) (lines_of (table_at lines order.now terms.now weights.now counts.now)) }
 {
     let last = number_of(hard) + lines;
     let mut text = [0u8; 8448];

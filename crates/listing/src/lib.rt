@@ -5,7 +5,7 @@ pub mod text;
 ghost use Rattle.std.specs.Prelude.{◌≡◌, ◌+◌, ◌≤◌, length};
 ghost use Rattle.configuration.specs.Configuration.{line};
 ghost use Rattle.hard.specs.Working.{hard_in, HardFits};
-ghost use Rattle.table.specs.Rows.{table_at, table_before, lines_of, Fits};
+ghost use Rattle.table.specs.Rows.{table_at, lines_of, Fits};
 ghost use Rattle.listing.specs.Listing.{hard_line, header_text, hard_text, line_text, text_of, listing_of};
 ghost use Rattle.listing.specs.Writing.{overwritten};
 
@@ -80,11 +80,11 @@ pub fn put_text(
     counts: &[u32],
     number: usize,
 ) -> usize
-    requires { HardFits hard.now × Fits 128 (table_at lines order terms weights counts) × (number ≤ length (hard_in hard.now) + lines)
+    requires { HardFits hard.now × Fits 128 (table_at lines order.now terms.now weights.now counts.now) × (number ≤ length (hard_in hard.now) + lines)
         × (8448 ≤ length out.old) }
-    ensures end { let H = hard_in hard.now in let L = lines_of (table_before lines order terms weights counts) in
+    ensures end { let H = hard_in hard.now in let L = lines_of (table_at lines order.now terms.now weights.now counts.now) in
         result ≡ length (text_of number variables H L) }
-    ensures text { let H = hard_in hard.now in let L = lines_of (table_before lines order terms weights counts) in
+    ensures text { let H = hard_in hard.now in let L = lines_of (table_at lines order.now terms.now weights.now counts.now) in
         out.new ≡ overwritten out.old 0 (text_of number variables H L) }
     ensures room { result ≤ 8448 }
 {
@@ -113,10 +113,10 @@ pub fn put_listing(
     weights: &[i64],
     counts: &[u32],
 ) -> usize
-    requires { HardFits hard.now × Fits 128 (table_at lines order terms weights counts) × (at + 1224960 ≤ length out.old) }
-    ensures end { let H = hard_in hard.now in let L = lines_of (table_before lines order terms weights counts) in
+    requires { HardFits hard.now × Fits 128 (table_at lines order.now terms.now weights.now counts.now) × (at + 1224960 ≤ length out.old) }
+    ensures end { let H = hard_in hard.now in let L = lines_of (table_at lines order.now terms.now weights.now counts.now) in
         result ≡ at + length (listing_of variables H L) }
-    ensures text { let H = hard_in hard.now in let L = lines_of (table_before lines order terms weights counts) in
+    ensures text { let H = hard_in hard.now in let L = lines_of (table_at lines order.now terms.now weights.now counts.now) in
         out.new ≡ overwritten out.old at (listing_of variables H L) }
     ensures room { result ≤ at + 1224960 }
 {

@@ -2,8 +2,6 @@
 -- lent run of 128 records, each a weight and a count of terms. .. Lines stand in the order above; all unused places are zero." Document 02, Ask 10: "Let the terms of all lines
 -- follow one another in line order from place 0, all places after the last being zero."
 use Rattle.std.specs.Prelude.{◌≡◌, Bool, true, false, ◌&&◌, List, [], ◌∷◌, ◌++◌, ℕ, zero, suc, ◌-◌, ◌≤◌, T, eqb, ℤ, pos, negsuc, length, take, drop, replicate}
-use Rattle.std.specs.Borrow.{Bor}
-use denote.Triple.Both.{Both}
 use Rattle.configuration.specs.Configuration.{Line, line, is_configuration}
 use Rattle.memory.specs.declared.Head.{Head}
 use Rattle.memory.specs.declared.Entry.{Entry}
@@ -101,13 +99,3 @@ image_of n L = image_under back_to_back n L
 
 abbrev pub well_formed : Memory → Bool
 well_formed m = well_formed_under back_to_back m
-
--- ---- a memory as a function is lent it, with the line table by value: `memory_at` is for what it asks, `memory_before` and `memory_after` for what it promises
-abbrev pub memory_at : Head → Bor (List ℕ) → List Entry → Memory
-memory_at h ts t = memory_of h ts.now t
-
-abbrev pub memory_before : {A : Type 0} → Head → Both (Bor (List ℕ)) A → List Entry → Memory
-memory_before h ts t = memory_at h ts.entry t
-
-abbrev pub memory_after : {A : Type 0} → Head → Both A (Bor (List ℕ)) → List Entry → Memory
-memory_after h ts t = memory_at h ts.exit t

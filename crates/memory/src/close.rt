@@ -1,7 +1,7 @@
 // From the working form back to what is lent.
 ghost use Rattle.std.specs.Prelude.{◌≡◌, ℕ};
-ghost use Rattle.table.specs.Rows.{table_at, table_before, lines_of, Fits};
-ghost use Rattle.memory.specs.Memory.{memory_after, image_of};
+ghost use Rattle.table.specs.Rows.{table_at, lines_of, Fits};
+ghost use Rattle.memory.specs.Memory.{image_of, memory_of};
 ghost use Rattle.memory.specs.Places.{ClearFrom};
 
 use crate::Entry;
@@ -22,9 +22,9 @@ pub fn close(
     used: usize,
     terms: &mut [u32],
 ) -> [Entry; 128]
-    requires { Fits 128 (table_at lines order rows weights counts) × ClearFrom used terms.old }
-    ensures { let N = lines_of (table_before lines order rows weights counts) in
-        ((n k : ℕ) → memory_after (record { variables = n; lines = lines; hard = k }) terms result ≡ image_of n N) }
+    requires { Fits 128 (table_at lines order.now rows.now weights.now counts.now) × ClearFrom used terms.old }
+    ensures { let N = lines_of (table_at lines order.now rows.now weights.now counts.now) in
+        ((n k : ℕ) → memory_of (record { variables = n; lines = lines; hard = k }) terms.new result ≡ image_of n N) }
 {
     let mut entries = no_entries();
     let mut end: usize = 0;

@@ -3,7 +3,7 @@ ghost use Rattle.std.specs.Prelude.{◌≡◌, true, false, ◌&&◌, ◌≤◌,
 ghost use Rattle.polynomial.specs.Polynomial.{order_of};
 ghost use Rattle.configuration.specs.Weight.{in_range};
 ghost use Rattle.configuration.specs.Configuration.{line, by_order, line_fits, lines_fit, weights_fit};
-ghost use Rattle.memory.specs.Memory.{read_lines, memory_before, well_formed};
+ghost use Rattle.memory.specs.Memory.{read_lines, well_formed, memory_of};
 ghost use Rattle.memory.specs.Places.{used_by, is_unused, all_unused};
 
 use crate::entries::used_by;
@@ -98,7 +98,7 @@ fn lines_fit(variables: u32, lines: usize, terms: &[u32], entries: [Entry; 128])
 
 // Whether a lent memory, its term area of any length and contents, is well formed.
 pub fn well_formed(head: Head, terms: &[u32], entries: [Entry; 128]) -> bool
-    ensures { result ≡ well_formed (memory_before head terms entries) }
+    ensures { result ≡ well_formed (memory_of head terms.now entries) }
 {
     if terms.len() != 8192 {
         return false;

@@ -1,7 +1,7 @@
 // From what is lent to the working form.
 ghost use Rattle.std.specs.Prelude.{◌≡◌, T, length};
-ghost use Rattle.table.specs.Rows.{table_after, lines_of, Fits, in_turn};
-ghost use Rattle.memory.specs.Memory.{memory_at, memory_before, standing_of, well_formed};
+ghost use Rattle.table.specs.Rows.{lines_of, Fits, in_turn, table_at};
+ghost use Rattle.memory.specs.Memory.{standing_of, well_formed, memory_of};
 
 use crate::{Entry, Head};
 use configuration::area::part;
@@ -18,10 +18,10 @@ pub fn open(
     weights: &mut [i64],
     counts: &mut [u32],
 ) -> usize
-    requires { T (well_formed (memory_at head terms entries)) × (order.old ≡ in_turn 128 0) × (length rows.old ≡ 8192)
+    requires { T (well_formed (memory_of head terms.now entries)) × (order.old ≡ in_turn 128 0) × (length rows.old ≡ 8192)
         × (length weights.old ≡ 128) × (length counts.old ≡ 128) }
-    ensures lines { lines_of (table_after result order rows weights counts) ≡ standing_of (memory_before head terms entries) }
-    ensures fits { Fits 128 (table_after result order rows weights counts) }
+    ensures lines { lines_of (table_at result order.new rows.new weights.new counts.new) ≡ standing_of (memory_of head terms.now entries) }
+    ensures fits { Fits 128 (table_at result order.new rows.new weights.new counts.new) }
 {
     let lines = head.lines as usize;
     let mut held: usize = 0;

@@ -4,7 +4,7 @@ ghost use Rattle.polynomial.specs.Polynomial.{IsOrdered};
 ghost use Rattle.configuration.specs.Configuration.{is_polynomial, weights_fit};
 ghost use Rattle.hard.specs.Hard.{is_hard_list};
 ghost use Rattle.hard.specs.Working.{hard_in, run_of};
-ghost use Rattle.table.specs.Rows.{Table, table_at, table_before, table_after, lines_of, Fits};
+ghost use Rattle.table.specs.Rows.{Table, table_at, lines_of, Fits};
 ghost use Rattle.problem.specs.Problem.{on_variables, on_term, on_weight, on_clause, on_hard};
 ghost use Rattle.problem.specs.Held.{passed, unless_found, Does};
 
@@ -103,9 +103,9 @@ pub fn on_weight(
     weights: &mut [i64],
     counts: &mut [u32],
 ) -> Recorded
-    requires { let t = table_at p.lines order terms weights counts in
+    requires { let t = table_at p.lines order.old terms.old weights.old counts.old in
         (p.at < length bytes.now) × (p.records ≤ p.at) × (length work.now ≡ 64) × (p.work ≤ 64) × Fits 128 t × T (weights_fit (lines_of t)) }
-    ensures { let t = table_before p.lines order terms weights counts in let u = table_after result.progress.lines order terms weights counts in
+    ensures { let t = table_at p.lines order.old terms.old weights.old counts.old in let u = table_at result.progress.lines order.new terms.new weights.new counts.new in
         ((hs : List ℕ) → Does (on_weight bytes.now) p work.now hs t result work.now hs u) }
 {
     let read = read_weight(bytes, p);
@@ -129,9 +129,9 @@ pub fn on_clause(
     weights: &mut [i64],
     counts: &mut [u32],
 ) -> Recorded
-    requires { let t = table_at p.lines order terms weights counts in
+    requires { let t = table_at p.lines order.old terms.old weights.old counts.old in
         (p.at < length bytes.now) × (p.records ≤ p.at) × Fits 128 t × T (weights_fit (lines_of t)) }
-    ensures { let t = table_before p.lines order terms weights counts in let u = table_after result.progress.lines order terms weights counts in
+    ensures { let t = table_at p.lines order.old terms.old weights.old counts.old in let u = table_at result.progress.lines order.new terms.new weights.new counts.new in
         ((us hs : List ℕ) → Does (on_clause bytes.now) p us hs t result us hs u) }
 {
     let read = read_clause(bytes, p);

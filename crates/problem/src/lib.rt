@@ -7,7 +7,7 @@ ghost use Rattle.refusal.specs.Refusal.{numbered};
 ghost use Rattle.refusal.specs.Outcome.{nothing, refused_for};
 ghost use Rattle.polynomial.specs.Polynomial.{ZERO};
 ghost use Rattle.hard.specs.Working.{run_of};
-ghost use Rattle.table.specs.Rows.{table_at, table_before, table_after, lines_of, Fits};
+ghost use Rattle.table.specs.Rows.{table_at, lines_of, Fits};
 ghost use Rattle.walk.specs.Walk.{verdict};
 ghost use Rattle.problem.specs.Problem.{on_record, file_problem, told_of_filing};
 ghost use Rattle.problem.specs.Held.{progress_in, Held, IsUsable, Does};
@@ -62,9 +62,9 @@ fn on_record(
     weights: &mut [i64],
     counts: &mut [u32],
 ) -> Recorded
-    requires { let t = table_at p.lines order terms weights counts in
+    requires { let t = table_at p.lines order.old terms.old weights.old counts.old in
         (p.at < length bytes.now) × Held p work.old hard.old t × IsUsable (progress_in p work.old hard.old t).state }
-    ensures { let t = table_before p.lines order terms weights counts in let u = table_after result.progress.lines order terms weights counts in
+    ensures { let t = table_at p.lines order.old terms.old weights.old counts.old in let u = table_at result.progress.lines order.new terms.new weights.new counts.new in
         Does (on_record bytes.now) p work.old hard.old t result work.new hard.new u }
 {
     let at = p.at;
@@ -112,10 +112,10 @@ pub fn file_problem(
     weights: &mut [i64],
     counts: &mut [u32],
 ) -> Filing
-    requires { Fits 128 (table_at 0 order terms weights counts) × (hard.old ≡ run_of []) }
-    ensures made { let m = file_problem bytes.now in let t = table_after result.lines order terms weights counts in
+    requires { Fits 128 (table_at 0 order.old terms.old weights.old counts.old) × (hard.old ≡ run_of []) }
+    ensures made { let m = file_problem bytes.now in let t = table_at result.lines order.new terms.new weights.new counts.new in
         (result.variables ≡ m.variables) × (hard.new ≡ run_of m.hard) × (lines_of t ≡ m.lines) × (told_of_filing result.answer ≡ m.told) }
-    ensures fits { Fits 128 (table_after result.lines order terms weights counts) }
+    ensures fits { Fits 128 (table_at result.lines order.new terms.new weights.new counts.new) }
 {
     let zero = Polynomial::ZERO;
     let mut work = zero.terms;

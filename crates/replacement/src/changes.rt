@@ -2,7 +2,7 @@
 ghost use Rattle.std.specs.Prelude.{◌≡◌, map, T, take};
 ghost use Rattle.configuration.specs.Configuration.{weights_fit};
 ghost use Rattle.replacement.specs.Passes.{IsSmall};
-ghost use Rattle.table.specs.Rows.{table_at, table_before, lines_of, Fits};
+ghost use Rattle.table.specs.Rows.{table_at, lines_of, Fits};
 ghost use Rattle.replacement.specs.Replacing.{change_of, Weighed};
 
 use table::lines::{look_up, row};
@@ -41,13 +41,13 @@ pub fn weigh(
     new_weights: &[i64],
     new_counts: &[u32],
 ) -> Changes
-    requires { let t = table_at lines order terms weights counts in let four = table_at new_lines new_order new_terms new_weights new_counts in
+    requires { let t = table_at lines order.now terms.now weights.now counts.now in let four = table_at new_lines new_order.now new_terms.now new_weights.now new_counts.now in
         Fits 128 t × T (weights_fit (lines_of t)) × Fits 4 four × IsSmall 45 (lines_of four) }
     ensures many { result.many ≡ new_lines }
-    ensures rows { let four = table_before new_lines new_order new_terms new_weights new_counts in
+    ensures rows { let four = table_at new_lines new_order.now new_terms.now new_weights.now new_counts.now in
         take new_lines result.rows ≡ map (change_of four) (take new_lines four.order) }
-    ensures weighed { let four = table_before new_lines new_order new_terms new_weights new_counts in
-        Weighed new_lines (lines_of four) (lines_of (table_before lines order terms weights counts)) result }
+    ensures weighed { let four = table_at new_lines new_order.now new_terms.now new_weights.now new_counts.now in
+        Weighed new_lines (lines_of four) (lines_of (table_at lines order.now terms.now weights.now counts.now)) result }
 {
     let none = Change {
         row: 0,

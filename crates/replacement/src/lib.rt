@@ -11,7 +11,7 @@ ghost use Rattle.configuration.specs.Weight.{is_zero};
 ghost use Rattle.configuration.specs.Configuration.{add as addTo, add_all, weights_fit};
 ghost use Rattle.configuration.specs.Limits.{within};
 ghost use Rattle.replacement.specs.Passes.{IsSmall};
-ghost use Rattle.table.specs.Rows.{table_at, table_before, table_after, lines_of, Fits};
+ghost use Rattle.table.specs.Rows.{table_at, lines_of, Fits};
 
 use changes::weigh;
 use limits::judge;
@@ -42,12 +42,12 @@ pub fn replace(
     new_weights: &[i64],
     new_counts: &[u32],
 ) -> Replaced
-    requires { let t = table_at lines order terms weights counts in let four = table_at new_lines new_order new_terms new_weights new_counts in
+    requires { let t = table_at lines order.old terms.old weights.old counts.old in let four = table_at new_lines new_order.now new_terms.now new_weights.now new_counts.now in
         Fits 128 t × T (weights_fit (lines_of t)) × Fits 4 four × IsSmall 45 (lines_of four) }
-    ensures lines { let L = lines_of (table_before lines order terms weights counts) in
-        let N = lines_of (table_before new_lines new_order new_terms new_weights new_counts) in
-        record { reached = lines_of (table_after result.lines order terms weights counts); stop = stop_of result.objection } ≡ after L (within (add_all N L)) }
-    ensures fits { Fits 128 (table_after result.lines order terms weights counts) }
+    ensures lines { let L = lines_of (table_at lines order.old terms.old weights.old counts.old) in
+        let N = lines_of (table_at new_lines new_order.now new_terms.now new_weights.now new_counts.now) in
+        record { reached = lines_of (table_at result.lines order.new terms.new weights.new counts.new); stop = stop_of result.objection } ≡ after L (within (add_all N L)) }
+    ensures fits { Fits 128 (table_at result.lines order.new terms.new weights.new counts.new) }
 {
     if new_lines == 0 {
         return Replaced {
@@ -91,11 +91,11 @@ pub fn add(
     f: &[u32],
     amount: i64,
 ) -> Replaced
-    requires { let t = table_at lines order terms weights counts in
+    requires { let t = table_at lines order.old terms.old weights.old counts.old in
         Fits 128 t × T (weights_fit (lines_of t)) × (length f.now ≤ 64) × (mag amount < 2 ^ 42) × T (not (is_zero amount)) }
-    ensures lines { let L = lines_of (table_before lines order terms weights counts) in let N = addTo f.now amount L in
-        record { reached = lines_of (table_after result.lines order terms weights counts); stop = stop_of result.objection } ≡ after L (within N) }
-    ensures fits { Fits 128 (table_after result.lines order terms weights counts) }
+    ensures lines { let L = lines_of (table_at lines order.old terms.old weights.old counts.old) in let N = addTo f.now amount L in
+        record { reached = lines_of (table_at result.lines order.new terms.new weights.new counts.new); stop = stop_of result.objection } ≡ after L (within N) }
+    ensures fits { Fits 128 (table_at result.lines order.new terms.new weights.new counts.new) }
 {
     if f.len() == Polynomial::ZERO.count {
         return Replaced {

@@ -4,7 +4,7 @@ ghost use Rattle.std.specs.Prelude.{◌≡◌, ◌≤◌, T, length, take};
 ghost use Rattle.configuration.specs.Weight.{all_in_range};
 ghost use Rattle.configuration.specs.Configuration.{add_all};
 ghost use Rattle.replacement.specs.Passes.{Room, Placed, shifted, selected};
-ghost use Rattle.table.specs.Rows.{table_at, table_before, table_after, lines_of, Fits, Holds};
+ghost use Rattle.table.specs.Rows.{table_at, lines_of, Fits, Holds};
 ghost use Rattle.replacement.specs.Replacing.{changed_lines, Prepared, Weighed};
 
 use crate::changes::Changes;
@@ -42,12 +42,12 @@ fn fold_chosen(
     changes: Changes,
     vanishing: bool,
 ) -> usize
-    requires { let t = table_at lines order terms weights counts in let L = lines_of t in let n = changes.many in
+    requires { let t = table_at lines order.old terms.old weights.old counts.old in let L = lines_of t in let n = changes.many in
         let N = changed_lines new_terms.now changes in let A = take n changes.after in
         Fits 128 t × Prepared new_terms.now changes × Placed vanishing A N (take n changes.places) (take n changes.before) L
         × Room (selected vanishing A N) L }
-    ensures { let L = lines_of (table_before lines order terms weights counts) in let N = changed_lines new_terms.now changes in
-        Holds 128 (add_all (selected vanishing (take changes.many changes.after) N) L) (table_after result order terms weights counts) }
+    ensures { let L = lines_of (table_at lines order.old terms.old weights.old counts.old) in let N = changed_lines new_terms.now changes in
+        Holds 128 (add_all (selected vanishing (take changes.many changes.after) N) L) (table_at result order.new terms.new weights.new counts.new) }
 {
     let many = changes.many;
     let rows = changes.rows;
@@ -91,11 +91,11 @@ pub fn fold_table(
     new_terms: &[u32],
     changes: Changes,
 ) -> usize
-    requires { let t = table_at lines order terms weights counts in let L = lines_of t in let n = changes.many in
+    requires { let t = table_at lines order.old terms.old weights.old counts.old in let L = lines_of t in let n = changes.many in
         let N = changed_lines new_terms.now changes in
         Fits 128 t × Prepared new_terms.now changes × Weighed n N L changes × T (all_in_range (take n changes.after)) × (length (add_all N L) ≤ 128) }
-    ensures { let L = lines_of (table_before lines order terms weights counts) in let N = changed_lines new_terms.now changes in
-        Holds 128 (add_all N L) (table_after result order terms weights counts) }
+    ensures { let L = lines_of (table_at lines order.old terms.old weights.old counts.old) in let N = changed_lines new_terms.now changes in
+        Holds 128 (add_all N L) (table_at result order.new terms.new weights.new counts.new) }
 {
     let fewer = fold_chosen(
         lines, order, terms, weights, counts, new_terms, changes, true,

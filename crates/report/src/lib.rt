@@ -5,7 +5,7 @@ ghost use Rattle.refusal.specs.Refusal.{refusal_of};
 ghost use Rattle.configuration.specs.Configuration.{is_configuration};
 ghost use Rattle.hard.specs.Hard.{is_hard_list};
 ghost use Rattle.hard.specs.Working.{hard_in, HardFits};
-ghost use Rattle.table.specs.Rows.{table_at, table_before, lines_of, Fits};
+ghost use Rattle.table.specs.Rows.{table_at, lines_of, Fits};
 ghost use Rattle.problem.specs.Problem.{told_of_filing};
 ghost use Rattle.derivation.specs.Derivation.{told_of_check};
 ghost use Rattle.listing.specs.Writing.{overwritten};
@@ -155,11 +155,11 @@ fn put_report(
     weights: &mut [i64],
     counts: &mut [u32],
 ) -> usize
-    requires { let H = hard_in hard.now in let t = table_at lines order terms weights counts in
+    requires { let H = hard_in hard.now in let t = table_at lines order.old terms.old weights.old counts.old in
         HardFits hard.now × T (is_hard_list variables H) × Fits 128 t × T (is_configuration variables (lines_of t)) × (2449984 ≤ length out.old) }
-    ensures end { let H = hard_in hard.now in let L = lines_of (table_before lines order terms weights counts) in
+    ensures end { let H = hard_in hard.now in let L = lines_of (table_at lines order.old terms.old weights.old counts.old) in
         result ≡ length (report_text steps.now variables H L) }
-    ensures text { let H = hard_in hard.now in let L = lines_of (table_before lines order terms weights counts) in
+    ensures text { let H = hard_in hard.now in let L = lines_of (table_at lines order.old terms.old weights.old counts.old) in
         out.new ≡ overwritten out.old 0 (report_text steps.now variables H L) }
 {
     let middle = put_listing(

@@ -9,7 +9,7 @@ ghost use Rattle.configuration.specs.Weight.{in_range};
 ghost use Rattle.configuration.specs.Configuration.{some, weight, weights_fit};
 ghost use Rattle.hard.specs.Working.{hard_in, HardFits};
 ghost use Rattle.calculus.specs.Calculus.{amount_fits, premises, there, rule_named, mode_tests, changed, step as step_of, operand_tests};
-ghost use Rattle.table.specs.Rows.{table_at, table_before, table_after, lines_of, Fits};
+ghost use Rattle.table.specs.Rows.{table_at, lines_of, Fits};
 ghost use Rattle.step.specs.Stepping.{IsOperand, Named, Finds};
 
 use calculus::{Mode, Rule};
@@ -65,8 +65,8 @@ fn is_held(
     f: &[u32],
     asked: i64,
 ) -> bool
-    requires { Fits 128 (table_at lines order terms weights counts) }
-    ensures { let L = lines_of (table_before lines order terms weights counts) in let p = f.now in
+    requires { Fits 128 (table_at lines order.now terms.now weights.now counts.now) }
+    ensures { let L = lines_of (table_at lines order.now terms.now weights.now counts.now) in let p = f.now in
         result ≡ cond (some p) (le_z asked (weight L p)) true }
 {
     if f.len() == Polynomial::ZERO.count {
@@ -87,8 +87,8 @@ fn is_there(
     g: &[u32],
     amount: i64,
 ) -> bool
-    requires { Fits 128 (table_at lines order terms weights counts) × T (in_range amount) }
-    ensures { let L = lines_of (table_before lines order terms weights counts) in
+    requires { Fits 128 (table_at lines order.now terms.now weights.now counts.now) × T (in_range amount) }
+    ensures { let L = lines_of (table_at lines order.now terms.now weights.now counts.now) in
         result ≡ there L (premises rule f.now g.now amount) }
 {
     match rule {
@@ -141,8 +141,8 @@ fn object(
     g: &[u32],
     asked: Move,
 ) -> Objection
-    requires { Fits 128 (table_at lines order terms weights counts) × HardFits hard.now }
-    ensures { let L = lines_of (table_before lines order terms weights counts) in
+    requires { Fits 128 (table_at lines order.now terms.now weights.now counts.now) × HardFits hard.now }
+    ensures { let L = lines_of (table_at lines order.now terms.now weights.now counts.now) in
         Finds (mode_tests (hard_in hard.now) asked.rule asked.mode f.now g.now asked.amount L) result }
 {
     let rule = asked.rule;
@@ -182,12 +182,12 @@ fn change(
     g: &[u32],
     amount: i64,
 ) -> Moved
-    requires { let t = table_at lines order terms weights counts in
+    requires { let t = table_at lines order.old terms.old weights.old counts.old in
         Fits 128 t × T (weights_fit (lines_of t)) × Named hard.now rule × IsOperand f.now × IsOperand g.now × T (in_range amount) }
-    ensures lines { let L = lines_of (table_before lines order terms weights counts) in
-        record { reached = lines_of (table_after result.lines order terms weights counts); stop = stop_of result.objection }
+    ensures lines { let L = lines_of (table_at lines order.old terms.old weights.old counts.old) in
+        record { reached = lines_of (table_at result.lines order.new terms.new weights.new counts.new); stop = stop_of result.objection }
         ≡ after L (changed (hard_in hard.now) rule f.now g.now amount L) }
-    ensures fits { Fits 128 (table_after result.lines order terms weights counts) }
+    ensures fits { Fits 128 (table_at result.lines order.new terms.new weights.new counts.new) }
 {
     let mut new_order = [0u64, 1, 2, 3];
     let mut new_terms = [0u32; 256];
@@ -269,12 +269,12 @@ pub fn step(
     g: &[u32],
     asked: Move,
 ) -> Moved
-    requires { let t = table_at lines order terms weights counts in
+    requires { let t = table_at lines order.old terms.old weights.old counts.old in
         Fits 128 t × T (weights_fit (lines_of t)) × HardFits hard.now × IsOperand f.now × IsOperand g.now }
-    ensures lines { let L = lines_of (table_before lines order terms weights counts) in let H = hard_in hard.now in
-        record { reached = lines_of (table_after result.lines order terms weights counts); stop = stop_of result.objection }
+    ensures lines { let L = lines_of (table_at lines order.old terms.old weights.old counts.old) in let H = hard_in hard.now in
+        record { reached = lines_of (table_at result.lines order.new terms.new weights.new counts.new); stop = stop_of result.objection }
         ≡ after L (step_of H asked.rule asked.mode f.now g.now asked.amount L) }
-    ensures fits { Fits 128 (table_after result.lines order terms weights counts) }
+    ensures fits { Fits 128 (table_at result.lines order.new terms.new weights.new counts.new) }
 {
     let objection = object(lines, order, terms, weights, counts, hard, f, g, asked);
     if let Objection::Found(reason) = objection {

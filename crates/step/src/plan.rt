@@ -5,7 +5,7 @@ ghost use Rattle.std.specs.Prelude.{◌≡◌, [], ◌∷◌, ◌≤◌, T, leng
 ghost use Rattle.configuration.specs.Weight.{in_range};
 ghost use Rattle.hard.specs.Working.{hard_in};
 ghost use Rattle.calculus.specs.declared.Rule.TheVariants.{Sum, Prod, Hard};
-ghost use Rattle.table.specs.Rows.{table_at, table_after, Fits};
+ghost use Rattle.table.specs.Rows.{table_at, Fits};
 ghost use Rattle.step.specs.Stepping.{IsOperand, Named, HasPlan};
 
 use calculus::Rule;
@@ -52,8 +52,8 @@ fn plan_sum(
     weights: &mut [i64],
     counts: &mut [u32],
 ) -> Plan
-    requires { IsOperand f.now × IsOperand g.now × T (in_range amount) × Fits 4 (table_at 0 order terms weights counts) }
-    ensures { HasPlan [] Sum f.now g.now amount result.objection (table_after result.lines order terms weights counts) }
+    requires { IsOperand f.now × IsOperand g.now × T (in_range amount) × Fits 4 (table_at 0 order.old terms.old weights.old counts.old) }
+    ensures { HasPlan [] Sum f.now g.now amount result.objection (table_at result.lines order.new terms.new weights.new counts.new) }
 {
     let mut product = [0u32; 64];
     let product_length = Polynomial::product(f, g, &mut product);
@@ -86,8 +86,8 @@ fn plan_prod(
     weights: &mut [i64],
     counts: &mut [u32],
 ) -> Plan
-    requires { IsOperand f.now × IsOperand g.now × T (in_range amount) × Fits 4 (table_at 0 order terms weights counts) }
-    ensures { HasPlan [] Prod f.now g.now amount result.objection (table_after result.lines order terms weights counts) }
+    requires { IsOperand f.now × IsOperand g.now × T (in_range amount) × Fits 4 (table_at 0 order.old terms.old weights.old counts.old) }
+    ensures { HasPlan [] Prod f.now g.now amount result.objection (table_at result.lines order.new terms.new weights.new counts.new) }
 {
     let mut product = [0u32; 64];
     let n = Polynomial::product(f, g, &mut product);
@@ -124,9 +124,9 @@ fn plan_hard(
     weights: &mut [i64],
     counts: &mut [u32],
 ) -> Plan
-    requires { IsOperand f.now × IsOperand q.now × (length h.now ≤ 64) × T (in_range amount) × Fits 4 (table_at 0 order terms weights counts) }
+    requires { IsOperand f.now × IsOperand q.now × (length h.now ≤ 64) × T (in_range amount) × Fits 4 (table_at 0 order.old terms.old weights.old counts.old) }
     ensures { let H = h.now ∷ [] in
-        HasPlan H (Hard 1) f.now q.now amount result.objection (table_after result.lines order terms weights counts) }
+        HasPlan H (Hard 1) f.now q.now amount result.objection (table_at result.lines order.new terms.new weights.new counts.new) }
 {
     let mut result = [0u32; 64];
     let n = Polynomial::plus_product(f, q, h, &mut result);
@@ -150,10 +150,10 @@ pub fn plan_of(
     weights: &mut [i64],
     counts: &mut [u32],
 ) -> Plan
-    requires { let four = table_at 0 order terms weights counts in
+    requires { let four = table_at 0 order.old terms.old weights.old counts.old in
         Named hard.now rule × IsOperand f.now × IsOperand g.now × T (in_range amount) × Fits 4 four }
     ensures { let H = hard_in hard.now in
-        HasPlan H rule f.now g.now amount result.objection (table_after result.lines order terms weights counts) }
+        HasPlan H rule f.now g.now amount result.objection (table_at result.lines order.new terms.new weights.new counts.new) }
 {
     match rule {
         Rule::Sum => plan_sum(f, g, amount, order, terms, weights, counts),

@@ -2,8 +2,6 @@
 -- the first and one of each of the others, and a run of entries has the order. Entry i is 128 k + r: line i stands in row r, and k is the key of its first term. Rows
 -- that no line has come behind, and what such a row holds is free.
 use Rattle.std.specs.Prelude.{◌≡◌, cond, List, [], ◌∷◌, map, ℕ, zero, suc, ◌*◌, ◌/◌, ◌%◌, ◌≤◌, ◌<◌, ltb, ℤ, pos, length, get_or, take, drop}
-use Rattle.std.specs.Borrow.{Bor}
-use denote.Triple.Both.{Both}
 use Rattle.term.specs.Term.{key_of}
 use Rattle.refusal.specs.Outcome.{Told}
 use Rattle.configuration.specs.Configuration.{Line, line, IsInOrder}
@@ -16,15 +14,9 @@ pub record Table : Type 0 where
   pub weights : List ℤ
   pub counts : List ℕ
 
--- ---- a table as a function is lent it: `table_at` is for what it asks, `table_before` and `table_after` for what it promises
-abbrev pub table_at : ℕ → Bor (List ℕ) → Bor (List ℕ) → Bor (List ℤ) → Bor (List ℕ) → Table
-table_at n is ts ws cs = record { lines = n; order = is.now; terms = ts.now; weights = ws.now; counts = cs.now }
-
-abbrev pub table_before : {A B C D : Type 0} → ℕ → Both (Bor (List ℕ)) A → Both (Bor (List ℕ)) B → Both (Bor (List ℤ)) C → Both (Bor (List ℕ)) D → Table
-table_before n is ts ws cs = table_at n is.entry ts.entry ws.entry cs.entry
-
-abbrev pub table_after : {A B C D : Type 0} → ℕ → Both A (Bor (List ℕ)) → Both B (Bor (List ℕ)) → Both C (Bor (List ℤ)) → Both D (Bor (List ℕ)) → Table
-table_after n is ts ws cs = table_at n is.exit ts.exit ws.exit cs.exit
+-- a table as a function is lent it: how many lines it has, and what its four areas hold
+abbrev pub table_at : ℕ → List ℕ → List ℕ → List ℤ → List ℕ → Table
+table_at n is ts ws cs = record { lines = n; order = is; terms = ts; weights = ws; counts = cs }
 
 -- the same areas, with so many lines
 abbrev pub with_lines : ℕ → Table → Table

@@ -3,7 +3,7 @@ ghost use Rattle.std.specs.Prelude.{◌≡◌, not, List, [], ◌++◌, ◌∷�
 ghost use Rattle.std.specs.Int.Signed.{mag};
 ghost use Rattle.polynomial.specs.Polynomial.{order_of};
 ghost use Rattle.configuration.specs.Configuration.{line, some, weight, add, IsInOrder, place_of, is_held, any_negative};
-ghost use Rattle.table.specs.Rows.{table_at, table_before, table_after, row_of, key_in, lines_of, capacity_of, Once, first_key, Fits, Holds};
+ghost use Rattle.table.specs.Rows.{table_at, row_of, key_in, lines_of, capacity_of, Once, first_key, Fits, Holds};
 
 use crate::order::{ahead, insert_entry, remove_entry, row_at};
 use configuration::weight::is_negative;
@@ -57,8 +57,8 @@ fn find(
     f: &[u32],
     first: u64,
 ) -> Place
-    requires { let t = table_at lines order terms weights counts in Fits (capacity_of t) t × T (some f.now) × (first ≡ first_key f.now) }
-    ensures { let L = lines_of (table_before lines order terms weights counts) in let p = f.now in
+    requires { let t = table_at lines order.now terms.now weights.now counts.now in Fits (capacity_of t) t × T (some f.now) × (first ≡ first_key f.now) }
+    ensures { let L = lines_of (table_at lines order.now terms.now weights.now counts.now) in let p = f.now in
         (result.at ≡ place_of p L) × (result.held ≡ is_held p L) }
 {
     if lines == 0 {
@@ -110,8 +110,8 @@ pub fn look_up(
     f: &[u32],
     first: u64,
 ) -> Known
-    requires { let t = table_at lines order terms weights counts in Fits (capacity_of t) t × T (some f.now) × (first ≡ first_key f.now) }
-    ensures { let L = lines_of (table_before lines order terms weights counts) in let p = f.now in
+    requires { let t = table_at lines order.now terms.now weights.now counts.now in Fits (capacity_of t) t × T (some f.now) × (first ≡ first_key f.now) }
+    ensures { let L = lines_of (table_at lines order.now terms.now weights.now counts.now) in let p = f.now in
         (result.at ≡ place_of p L) × (result.weight ≡ weight L p) }
 {
     let place = find(lines, order, terms, weights, counts, f, first);
@@ -133,8 +133,8 @@ pub fn weight_of(
     counts: &[u32],
     f: &[u32],
 ) -> i64
-    requires { let t = table_at lines order terms weights counts in Fits (capacity_of t) t × T (some f.now) }
-    ensures { result ≡ weight (lines_of (table_before lines order terms weights counts)) f.now }
+    requires { let t = table_at lines order.now terms.now weights.now counts.now in Fits (capacity_of t) t × T (some f.now) }
+    ensures { result ≡ weight (lines_of (table_at lines order.now terms.now weights.now counts.now)) f.now }
 {
     let first = key(f[0]);
     let known = look_up(lines, order, terms, weights, counts, f, first);
@@ -153,10 +153,10 @@ fn insert_line(
     first: u64,
     weight: i64,
 ) -> usize
-    requires { let t = table_at lines order terms weights counts in let c = capacity_of t in let L = lines_of t in let p = f.now in
+    requires { let t = table_at lines order.old terms.old weights.old counts.old in let c = capacity_of t in let L = lines_of t in let p = f.now in
         Fits c t × (at ≤ lines) × (lines < c) × T (some p) × (length p ≤ 64) × (first ≡ first_key p) × IsInOrder (take at L ++ line p weight ∷ drop at L) }
-    ensures { let t = table_before lines order terms weights counts in let L = lines_of t in
-        Holds (capacity_of t) (take at L ++ line f.now weight ∷ drop at L) (table_after result order terms weights counts) }
+    ensures { let t = table_at lines order.old terms.old weights.old counts.old in let L = lines_of t in
+        Holds (capacity_of t) (take at L ++ line f.now weight ∷ drop at L) (table_at result order.new terms.new weights.new counts.new) }
 {
     let here = row_at(order, lines);
     insert_entry(order, at, lines, 128 * first + (here as u64));
@@ -175,9 +175,9 @@ fn remove_line(
     counts: &[u32],
     at: usize,
 ) -> usize
-    requires { let t = table_at lines order terms weights counts in Fits (capacity_of t) t × (at < lines) }
-    ensures { let t = table_before lines order terms weights counts in let L = lines_of t in
-        Holds (capacity_of t) (take at L ++ drop (suc at) L) (table_after result order terms weights counts) }
+    requires { let t = table_at lines order.old terms.now weights.now counts.now in Fits (capacity_of t) t × (at < lines) }
+    ensures { let t = table_at lines order.old terms.now weights.now counts.now in let L = lines_of t in
+        Holds (capacity_of t) (take at L ++ drop (suc at) L) (table_at result order.new terms.now weights.now counts.now) }
 {
     let here = row_at(order, at);
     remove_entry(order, at, lines, here as u64);
@@ -198,11 +198,11 @@ pub fn fold_at(
     first: u64,
     amount: i64,
 ) -> usize
-    requires { let t = table_at lines order terms weights counts in let c = capacity_of t in let L = lines_of t in let p = f.now in
+    requires { let t = table_at lines order.old terms.old weights.old counts.old in let c = capacity_of t in let L = lines_of t in let p = f.now in
         Fits c t × T (some p) × (length p ≤ 64) × (first ≡ first_key p) × (at ≡ place_of p L) × (old ≡ weight L p)
         × (mag (weight L p +ℤ amount) < 2 ^ 63) × (length (add p amount L) ≤ c) }
-    ensures { let t = table_before lines order terms weights counts in let L = lines_of t in
-        Holds (capacity_of t) (add f.now amount L) (table_after result order terms weights counts) }
+    ensures { let t = table_at lines order.old terms.old weights.old counts.old in let L = lines_of t in
+        Holds (capacity_of t) (add f.now amount L) (table_at result order.new terms.new weights.new counts.new) }
 {
     if old != 0 {
         let sum = old + amount;
@@ -230,10 +230,10 @@ pub fn fold_in(
     f: &[u32],
     amount: i64,
 ) -> usize
-    requires { let t = table_at lines order terms weights counts in let c = capacity_of t in let L = lines_of t in let p = f.now in
+    requires { let t = table_at lines order.old terms.old weights.old counts.old in let c = capacity_of t in let L = lines_of t in let p = f.now in
         Fits c t × (length p ≤ 64) × (mag (weight L p +ℤ amount) < 2 ^ 63) × (length (add p amount L) ≤ c) }
-    ensures { let t = table_before lines order terms weights counts in let L = lines_of t in
-        Holds (capacity_of t) (add f.now amount L) (table_after result order terms weights counts) }
+    ensures { let t = table_at lines order.old terms.old weights.old counts.old in let L = lines_of t in
+        Holds (capacity_of t) (add f.now amount L) (table_at result order.new terms.new weights.new counts.new) }
 {
     if f.len() == Polynomial::ZERO.count {
         return lines;
@@ -264,10 +264,10 @@ pub fn append(
     f: &[u32],
     weight: i64,
 ) -> usize
-    requires { let t = table_at lines order terms weights counts in let c = capacity_of t in let p = f.now in
+    requires { let t = table_at lines order.old terms.old weights.old counts.old in let c = capacity_of t in let p = f.now in
         Fits c t × (lines < c) × (length p ≤ 64) × IsInOrder (lines_of t ++ line p weight ∷ []) }
-    ensures { let t = table_before lines order terms weights counts in let L = lines_of t in
-        Holds (capacity_of t) (L ++ line f.now weight ∷ []) (table_after result order terms weights counts) }
+    ensures { let t = table_at lines order.old terms.old weights.old counts.old in let L = lines_of t in
+        Holds (capacity_of t) (L ++ line f.now weight ∷ []) (table_at result order.new terms.new weights.new counts.new) }
 {
     let first = key(f[0]);
     insert_line(

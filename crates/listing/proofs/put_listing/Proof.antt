@@ -29,7 +29,7 @@ abbrev start : tie.After-number-of invariant-loop decreases-loop → tie.Start i
 start c = c.before.before.before.before.before.before
 
 abbrev table : tie.Start invariant-loop decreases-loop → Table
-table s = let a = s.args in table_at a.lines a.order a.terms a.weights a.counts
+table s = let a = s.args in table_at a.lines a.order.now a.terms.now a.weights.now a.counts.now
 
 -- the hard list
 abbrev held : tie.Start invariant-loop decreases-loop → List (List ℕ)

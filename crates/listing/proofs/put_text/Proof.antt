@@ -19,7 +19,7 @@ use Rattle.listing.proofs.put_text.Statement.{statement}
 use Rattle.listing.proofs.put_text.Tie as tie
 
 abbrev table : tie.Start → Table
-table s = let a = s.args in table_at a.lines a.order a.terms a.weights a.counts
+table s = let a = s.args in table_at a.lines a.order.now a.terms.now a.weights.now a.counts.now
 
 -- the hard list
 abbrev held : tie.Start → List (List ℕ)

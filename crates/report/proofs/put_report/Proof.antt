@@ -19,7 +19,7 @@ use Rattle.report.proofs.put_report.Tie as tie
 
 -- the table before the check, and after it
 abbrev before : tie.Start → Table
-before s = let a = s.args in table_at a.lines a.order a.terms a.weights a.counts
+before s = let a = s.args in table_at a.lines a.order.now a.terms.now a.weights.now a.counts.now
 
 abbrev after : tie.After-check-derivation → Table
 after c = let h = c.check-derivation in record { lines = h.result.lines; order = h.new.1.1.1.1.0; terms = h.new.1.1.1.1.1.0; weights = h.new.1.1.1.1.1.1.0; counts = h.new.1.1.1.1.1.1.1.0 }
