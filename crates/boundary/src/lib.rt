@@ -1,5 +1,7 @@
 // The functions that programs in other languages call, on numbers and slices of bytes alone: the static library defines each under
 // its plain name. A slice passes as a pointer and then a length.
+#![tactic(auto)]
+
 ghost use Rattle.std.specs.Prelude.{◌≡◌};
 ghost use Rattle.report.specs.Report.{check_into, code_into};
 

@@ -1,5 +1,7 @@
 // Runs the shipped cases: for each what the checking program prints, and then what the program that tells codes prints. The
 // files of case 7 are `p007` and `s007`; what they hold is written in cases.txt.
+#![tactic(auto)]
+
 ghost use Rattle.std.specs.Prelude.{◌<◌};
 
 use files::read_file;

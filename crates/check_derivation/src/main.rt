@@ -1,5 +1,7 @@
 // Checks the derivation in the file `steps.bin` against the problem in the file `problem.bin`, both in the working folder:
 // prints the listing before, the listing after, and the verdict.
+#![tactic(auto)]
+
 use files::read_file;
 use report::check_files;
 

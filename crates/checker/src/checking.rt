@@ -19,7 +19,7 @@ use refusal::{Objection, Reason};
 use table::order::fresh_order;
 
 // What a check leaves: the records of the lines, and the head with the answer.
-#[derive(Drop)]
+#[derive(Clone, Copy)]
 pub struct Done {
     pub entries: [Entry; 128],
     pub checked: Checked,

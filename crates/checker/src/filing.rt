@@ -16,7 +16,7 @@ use refusal::Reason;
 use table::order::fresh_order;
 
 // What a filing leaves: the records of the lines, and the head with the answer.
-#[derive(Drop)]
+#[derive(Clone, Copy)]
 pub struct Done {
     pub entries: [Entry; 128],
     pub filed: Filed,

@@ -1,4 +1,6 @@
 // The operations as callers use them. Each tests what it is lent, reads its lines, works on them, and writes back what is left.
+#![tactic(auto)]
+
 mod admission;
 mod checking;
 mod filing;
@@ -18,35 +20,35 @@ use problem::FilingAnswer;
 use refusal::Reason;
 
 // What a step answers. A refusal names record 0, and its reason.
-#[derive(Drop)]
+#[derive(Clone, Copy)]
 pub enum StepAnswer {
     Taken,
     Refused(u64, Reason),
 }
 
 // What a step leaves: the head, and the answer.
-#[derive(Drop)]
+#[derive(Clone, Copy)]
 pub struct Stepped {
     pub head: Head,
     pub answer: StepAnswer,
 }
 
 // What a check leaves.
-#[derive(Drop)]
+#[derive(Clone, Copy)]
 pub struct Checked {
     pub head: Head,
     pub answer: CheckAnswer,
 }
 
 // What a filing leaves.
-#[derive(Drop)]
+#[derive(Clone, Copy)]
 pub struct Filed {
     pub head: Head,
     pub answer: FilingAnswer,
 }
 
 // What writing a line answers: the length of its text. A refusal names record 0, and its reason.
-#[derive(Drop)]
+#[derive(Clone, Copy)]
 pub enum LineAnswer {
     Written(usize),
     Refused(u64, Reason),

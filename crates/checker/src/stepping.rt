@@ -20,7 +20,7 @@ use step::{Move, misfit, step};
 use table::order::fresh_order;
 
 // What a step leaves: the records of the lines, and the head with the answer.
-#[derive(Drop)]
+#[derive(Clone, Copy)]
 pub struct Done {
     pub entries: [Entry; 128],
     pub stepped: Stepped,

@@ -15,7 +15,7 @@ use Rattle.configuration.specs.Weight.{in_range, is_zero, is_negative}
 
 -- ---- a weight and its bits
 pub read_back : (w : ℤ) → mag w < 2 ^ 63 → to_z w64 (of_z w64 w) ≡ w
-read_back w h = to_z-of_z (record { sfits = h })
+read_back w h = to_z-of_z {w = w64} (record { sfits = h })
 
 pub is_zero_lem : (w : ℤ) → mag w < 2 ^ 63 → of_z w64 w ≡ of_z w64 (pos 0) → is_zero w ≡ true
 is_zero_lem w h e = ap is_zero (sym (read_back w h) ∙ ap (to_z w64) e)

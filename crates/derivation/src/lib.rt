@@ -1,4 +1,6 @@
 // Checking a derivation, on the lines of a table.
+#![tactic(auto)]
+
 mod degree;
 mod entry;
 
@@ -20,14 +22,14 @@ use polynomial::Polynomial;
 use refusal::{Objection, Reason};
 
 // What a check answers: the claim and the degree, or a refusal with the record that it names and its reason.
-#[derive(Drop)]
+#[derive(Clone, Copy)]
 pub enum CheckAnswer {
     Confirmed(i64, u32),
     Refused(u64, Reason),
 }
 
 // What a check leaves: how many lines the table has, and the answer.
-#[derive(Drop)]
+#[derive(Clone, Copy)]
 pub struct Check {
     pub lines: usize,
     pub answer: CheckAnswer,
@@ -37,7 +39,7 @@ pub struct Check {
 // table has, how many records are accepted, the claim, the largest degree met so far, whether N or Z was among the records, the
 // mode, whether f is set, whether B was among them. The terms of f and of the work polynomial stand at the fronts of two areas
 // of 64. The small fields stand together and last, since this goes by value from record to record.
-#[derive(Drop)]
+#[derive(Clone, Copy)]
 pub struct Progress {
     pub at: usize,
     pub first: usize,
@@ -53,14 +55,14 @@ pub struct Progress {
 }
 
 // The progress that one record leaves, and what is found against the record. A refused record leaves all as it was.
-#[derive(Drop)]
+#[derive(Clone, Copy)]
 pub struct Recorded {
     pub progress: Progress,
     pub objection: Objection,
 }
 
 // What a record's letter says: a mode, a term, the choice of f, a step, a hard step, the claim, or none of these.
-#[derive(Drop)]
+#[derive(Clone, Copy)]
 enum Kind {
     Start(Mode),
     Term,

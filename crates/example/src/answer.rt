@@ -15,7 +15,7 @@ const CONFIRMED: u8 = 2;
 const WRITTEN: u8 = 3;
 
 // What an operation said: which words, the numbers between them, and how many terms a refusal tells, 0 where it tells none.
-#[derive(Drop)]
+#[derive(Clone, Copy)]
 pub struct Said {
     words: u8,
     first: u64,

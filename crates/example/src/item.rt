@@ -53,7 +53,7 @@ const NONE: u8 = 255;
 const BEYOND: usize = 18446744073709551615;
 
 // An item: its kind and its three numbers, where the fourth and its texts begin, and where the next item does.
-#[derive(Drop)]
+#[derive(Clone, Copy)]
 pub struct Item {
     pub kind: u8,
     pub first: u32,

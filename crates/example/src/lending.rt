@@ -8,21 +8,21 @@ use memory::{Entry, Head};
 use step::Move;
 
 // What a step leaves: the records, and the head with the answer.
-#[derive(Drop)]
+#[derive(Clone, Copy)]
 pub struct Step {
     pub entries: [Entry; 129],
     pub stepped: Stepped,
 }
 
 // What a check leaves.
-#[derive(Drop)]
+#[derive(Clone, Copy)]
 pub struct Check {
     pub entries: [Entry; 129],
     pub checked: Checked,
 }
 
 // What a filing leaves.
-#[derive(Drop)]
+#[derive(Clone, Copy)]
 pub struct Filing {
     pub entries: [Entry; 129],
     pub filed: Filed,

@@ -5,7 +5,7 @@ use std::num::wrapping_add_u64;
 
 // How many examples were worked and how many of them came out otherwise than they should, what is lent, how many counts and
 // places of the hard list, and what the last operation answered. There is one count and one place more than should be lent.
-#[derive(Drop)]
+#[derive(Clone, Copy)]
 pub struct State {
     pub worked: u64,
     pub differ: u64,

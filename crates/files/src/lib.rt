@@ -1,4 +1,6 @@
 // Reading the programs' files. How a file is read is the toolchain's affair.
+#![tactic(auto)]
+
 ghost use Rattle.io.specs.Counts.{IsPrefixLen};
 
 // Reads a file into the bytes and answers how many there are: none where it won't open or can't be read. What the bytes are

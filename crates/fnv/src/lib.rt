@@ -1,4 +1,6 @@
 // FNV-1a, 64 bits: a code of any run of bytes.
+#![tactic(auto)]
+
 ghost use Rattle.std.specs.Prelude.{◌≡◌, ◌*◌, ◌%◌, ◌^◌};
 ghost use Rattle.fnv.specs.Fnv.{basis, add_byte, add_bytes};
 

@@ -1,4 +1,6 @@
 // Prints the codes of some inputs, each as sixteen hexadecimal digits on a line of its own.
+#![tactic(auto)]
+
 ghost use Rattle.std.specs.Prelude.{◌≡◌, ℕ, ◌<◌, length, get_or};
 
 // Writes one code and a line end.

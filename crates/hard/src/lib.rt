@@ -1,4 +1,6 @@
 // The hard list: whether what is lent of it is well formed, its working form, and reading and adding one polynomial.
+#![tactic(auto)]
+
 pub mod form;
 
 ghost use Rattle.std.specs.Prelude.{◌≡◌, List, [], ◌++◌, ◌∷◌, ℕ, ◌≤◌, ◌<◌, T, length, get_or};

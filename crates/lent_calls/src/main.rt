@@ -1,6 +1,8 @@
 // Calls the open operations on lent memory, for the time that they take: bench/run writes the files and holds the clock. Each byte of
 // the file `calls` is a call: F files `problem.bin`, C checks `steps.bin`, S takes a step, and any other takes it back. All of them
 // are made in turn, a thousand times.
+#![tactic(auto)]
+
 use calculus::{Mode, Rule};
 use example::answer::{Said, checked, filed, taken, text_of};
 use example::lending::{check_derivation, file_problem, take_step};
@@ -11,7 +13,7 @@ use step::Move;
 
 // What goes from one call to the next: the head and the records, and what the last call said. The other areas are lent apart, unlike
 // in `example::state`, so that no copies of them are timed.
-#[derive(Drop)]
+#[derive(Clone, Copy)]
 struct Lent {
     head: Head,
     entries: [Entry; 129],

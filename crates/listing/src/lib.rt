@@ -1,4 +1,6 @@
 // The listing of a configuration and its hard polynomials, one text at a time.
+#![tactic(auto)]
+
 pub mod code;
 pub mod text;
 

@@ -1,5 +1,7 @@
 // Runs of masks: the keys of the products of terms, the subsets of a mask, products that differ in few variables, and areas in which
 // masks move.
+#![tactic(auto)]
+
 pub mod few;
 pub mod keys;
 pub mod shift;

@@ -1,10 +1,3 @@
-pub mod Locals
-pub mod Lending
-pub mod Calling
-pub mod Walking
-pub mod Filling
-pub mod Slices
-pub mod Elements
 pub mod Forms
 pub mod Openings
 pub mod Closings

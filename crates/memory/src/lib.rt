@@ -1,5 +1,7 @@
 // What callers lend, and the working form of what it holds: the head, the term area and the line table, whether they are well
 // formed, and how lines are read from them and written back. The operations of the crate `checker` call it.
+#![tactic(auto)]
+
 pub mod area;
 pub mod close;
 pub mod entries;
@@ -7,7 +9,7 @@ pub mod form;
 pub mod open;
 
 // The head of what is lent: how many variables the problem has, how many lines are held, and how many hard polynomials.
-#[derive(Drop)]
+#[derive(Clone, Copy)]
 pub struct Head {
     pub variables: u32,
     pub lines: u32,
@@ -15,7 +17,7 @@ pub struct Head {
 }
 
 // The record of a line in the line table: its weight, and how many terms it has.
-#[derive(Drop)]
+#[derive(Clone, Copy)]
 pub struct Entry {
     pub weight: i64,
     pub count: u32,

@@ -1,5 +1,7 @@
 // Prints how many terms exact results have, up to the most that there can be: a sum 128, a product 4,096, f + q h 4,160, a
 // clause 2^32.
+#![tactic(auto)]
+
 use polynomial::Polynomial;
 
 // Prints what is worked out, and how many terms it has.

@@ -401,7 +401,8 @@ total_permuted test (skip (hard f) C D h) = total_permuted test h
 total_permuted test (swap (weighted f u) (weighted g w) C n) =
     solve (share (test f) u ∷ share (test g) w ∷ total test (weighted_items C) ∷ []) (v 0 ⊞ (v 1 ⊞ v 2)) (v 1 ⊞ (v 0 ⊞ v 2)) tt
 total_permuted test (swap (weighted f u) (hard g) C n) = refl
-total_permuted test (swap (hard f) j C n) = refl
+total_permuted test (swap (hard f) (weighted g w) C n) = refl
+total_permuted test (swap (hard f) (hard g) C n) = refl
 total_permuted test (trans C D E h k) = total_permuted test h ∙ total_permuted test k
 
 hard_permuted : {C D : List Item} → Permuted C D → hard_items C ≡ hard_items D
@@ -409,7 +410,8 @@ unfolding hard_items
 hard_permuted (itself C) = refl
 hard_permuted (skip (weighted f w) C D h) = hard_permuted h
 hard_permuted (skip (hard f) C D h) = ap (λ (H : List (List ℕ)). f ∷ H) (hard_permuted h)
-hard_permuted (swap (weighted f u) j C n) = refl
+hard_permuted (swap (weighted f u) (weighted g w) C n) = refl
+hard_permuted (swap (weighted f u) (hard g) C n) = refl
 hard_permuted (swap (hard f) (weighted g w) C n) = refl
 hard_permuted (swap (hard f) (hard g) C n) = absurd n
 hard_permuted (trans C D E h k) = hard_permuted h ∙ hard_permuted k

@@ -1,4 +1,6 @@
 // Filing a problem.
+#![tactic(auto)]
+
 mod entry;
 mod read;
 
@@ -17,7 +19,7 @@ use polynomial::Polynomial;
 use refusal::{Objection, Reason};
 
 // What a filing answers. A refusal names a record, and its reason.
-#[derive(Drop)]
+#[derive(Clone, Copy)]
 pub enum FilingAnswer {
     Filed,
     Refused(u64, Reason),
@@ -25,7 +27,7 @@ pub enum FilingAnswer {
 
 // What a filing makes: the number of variables, how many lines, and the answer. The lines stand in a table, and the hard list
 // in its working form.
-#[derive(Drop)]
+#[derive(Clone, Copy)]
 pub struct Filing {
     pub variables: u32,
     pub lines: usize,
@@ -34,7 +36,7 @@ pub struct Filing {
 
 // How far a filing has come: where the next record begins, how many are accepted, whether V was among them, the number of
 // variables, how many lines the table has, and how many terms the work polynomial. These stand at the front of an area of 64.
-#[derive(Drop)]
+#[derive(Clone, Copy)]
 pub struct Progress {
     pub at: usize,
     pub records: u64,
@@ -45,7 +47,7 @@ pub struct Progress {
 }
 
 // The progress that one record leaves, and what is found against the record. A refused one leaves all as it was.
-#[derive(Drop)]
+#[derive(Clone, Copy)]
 pub struct Recorded {
     pub progress: Progress,
     pub objection: Objection,

@@ -12,14 +12,14 @@ use record::{Amount, Clause, read_amount, read_clause as read_body};
 use refusal::{Objection, Reason};
 
 // A weight, and what is found against its record.
-#[derive(Drop)]
+#[derive(Clone, Copy)]
 pub struct Weight {
     pub weight: i64,
     pub objection: Objection,
 }
 
 // A polynomial with its weight, and what is found against their record.
-#[derive(Drop)]
+#[derive(Clone, Copy)]
 pub struct Weighted {
     pub polynomial: Polynomial,
     pub weight: i64,

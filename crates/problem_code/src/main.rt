@@ -1,4 +1,6 @@
 // Prints the code of the problem that the file `problem.bin` in the working folder files.
+#![tactic(auto)]
+
 use files::read_file;
 use report::{Text, code_file, held};
 

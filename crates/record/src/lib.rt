@@ -1,30 +1,32 @@
 // The bodies of records: numbers in bytes, the lowest byte first, or that the body is cut short.
+#![tactic(auto)]
+
 ghost use Rattle.std.specs.Prelude.{◌≡◌, ◌+◌, ◌≤◌, ◌<◌, ◌^◌, length};
 ghost use Rattle.record.specs.Record.{number_at, signed_at, byte_in, mask_in, amount_in, clause_in};
 
 // A body of one byte.
-#[derive(Drop)]
+#[derive(Clone, Copy)]
 pub enum Byte {
     Whole(u8),
     Cut,
 }
 
 // A body of a mask.
-#[derive(Drop)]
+#[derive(Clone, Copy)]
 pub enum Mask {
     Whole(u32),
     Cut,
 }
 
 // A body of a weight, an amount or a claim.
-#[derive(Drop)]
+#[derive(Clone, Copy)]
 pub enum Amount {
     Whole(i64),
     Cut,
 }
 
 // A body of a clause: the plain mask, the negated mask, the weight.
-#[derive(Drop)]
+#[derive(Clone, Copy)]
 pub enum Clause {
     Whole(u32, u32, i64),
     Cut,

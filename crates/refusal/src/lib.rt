@@ -1,8 +1,10 @@
 // Why an operation refuses. Documents 01 and 02 number the kinds of refusal; some tell a second number, a detail.
+#![tactic(auto)]
+
 ghost use Rattle.std.specs.Prelude.{◌≡◌};
 ghost use Rattle.refusal.specs.Refusal.{refusal_of};
 
-#[derive(Drop)]
+#[derive(Clone, Copy)]
 pub enum Reason {
     // A lent area has another length than it must have.
     WrongLength,
@@ -45,7 +47,7 @@ pub enum Reason {
 }
 
 // What is found against something, if anything.
-#[derive(Drop)]
+#[derive(Clone, Copy)]
 pub enum Objection {
     Nothing,
     Found(Reason),

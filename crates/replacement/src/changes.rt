@@ -9,7 +9,7 @@ use table::lines::{look_up, row};
 use table::order::{key_at, row_at};
 
 // A line that is to be folded in: the row of its terms, how many they are, the key of the first, and the amount.
-#[derive(Drop)]
+#[derive(Clone, Copy)]
 pub struct Change {
     pub row: usize,
     pub count: usize,
@@ -19,7 +19,7 @@ pub struct Change {
 
 // The lines of a table of four, with their places in another and the weights of their polynomials there, before and after they
 // are folded in.
-#[derive(Drop)]
+#[derive(Clone, Copy)]
 pub struct Changes {
     pub many: usize,
     pub rows: [Change; 4],

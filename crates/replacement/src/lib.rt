@@ -1,5 +1,7 @@
 // The replacement of weighted polynomials, all or nothing: the changes have been folded among themselves, in a table of four
 // lines; the outcome is judged, and only then lines are written.
+#![tactic(auto)]
+
 mod changes;
 mod limits;
 mod passes;
@@ -22,7 +24,7 @@ use table::lines::{fold_at, look_up};
 use term::key;
 
 // How many lines a replacement leaves, and what was found against it: nothing, if it was made.
-#[derive(Drop)]
+#[derive(Clone, Copy)]
 pub struct Replaced {
     pub lines: usize,
     pub objection: Objection,

@@ -1,5 +1,7 @@
 // What the programs print of their files' bytes: the lines besides the listings, and all of it as one text. The lines of a problem stand in
 // a table of this crate's own, and its hard list in a run beside it, from the filing to the last listing: nothing is lent.
+#![tactic(auto)]
+
 ghost use Rattle.std.specs.Prelude.{◌≡◌, ◌+◌, ◌≤◌, min, T, length, take};
 ghost use Rattle.refusal.specs.Refusal.{refusal_of};
 ghost use Rattle.configuration.specs.Configuration.{is_configuration};
@@ -20,7 +22,7 @@ use refusal::{Reason, number};
 use table::order::fresh_order;
 
 // A line by value, from the front of the bytes; unused places are zero.
-#[derive(Drop)]
+#[derive(Clone, Copy)]
 pub struct Text {
     pub bytes: [u8; 64],
     pub size: usize,

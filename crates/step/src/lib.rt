@@ -1,5 +1,7 @@
 // One step on the lines of a table: the tests of the mode, and the changes of a rule, all or nothing; and the tests of
 // the operands of a step that is taken directly.
+#![tactic(auto)]
+
 mod plan;
 
 ghost use Rattle.std.specs.Prelude.{◌≡◌, true, cond, T};
@@ -23,7 +25,7 @@ use replacement::replace;
 use table::lines::{none_negative, weight_of};
 
 // What a step is asked to do: the rule, in which mode, and the amount that it moves.
-#[derive(Drop)]
+#[derive(Clone, Copy)]
 pub struct Move {
     pub rule: Rule,
     pub mode: Mode,
@@ -31,7 +33,7 @@ pub struct Move {
 }
 
 // How many lines a step leaves, and what was found against it: nothing, if it was taken.
-#[derive(Drop)]
+#[derive(Clone, Copy)]
 pub struct Moved {
     pub lines: usize,
     pub objection: Objection,

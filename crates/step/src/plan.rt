@@ -16,7 +16,7 @@ use table::lines::fold_in;
 
 // How many lines the table has that has the changes of a rule, and what is found against its results: nothing, or that one has
 // more than 64 terms.
-#[derive(Drop)]
+#[derive(Clone, Copy)]
 pub struct Plan {
     pub lines: usize,
     pub objection: Objection,

@@ -13,7 +13,7 @@ use polynomial::{Ordering, Polynomial};
 use term::key;
 
 // Where a polynomial stands, or would stand, among the lines, and whether it is held.
-#[derive(Drop)]
+#[derive(Clone, Copy)]
 pub struct Place {
     pub at: usize,
     pub held: bool,
@@ -94,7 +94,7 @@ fn find(
 }
 
 // Where a polynomial stands, or would stand, and its weight: 0 if it is not held.
-#[derive(Drop)]
+#[derive(Clone, Copy)]
 pub struct Known {
     pub at: usize,
     pub weight: i64,

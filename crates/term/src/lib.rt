@@ -1,4 +1,6 @@
 // Terms: a term is a set of variables, kept as a 32-bit mask.
+#![tactic(auto)]
+
 ghost use Rattle.std.specs.Prelude.{◌≡◌, ◌<◌, ◌^◌, length};
 ghost use Rattle.term.specs.Term.{degree_of, before, key_of, keys_with};
 

@@ -1,4 +1,6 @@
 // Records one after the other, as far as both files have them in common: the answer for one record, and the record M.
+#![tactic(auto)]
+
 ghost use Rattle.std.specs.Prelude.{◌≡◌, ◌≤◌, length, take};
 ghost use Rattle.refusal.specs.Outcome.{after, stop_of};
 ghost use Rattle.polynomial.specs.Polynomial.{IsOrdered};
@@ -10,7 +12,7 @@ use record::{Mask, read_mask};
 use refusal::{Objection, Reason};
 
 // How many terms the work polynomial has after a record, and the answer for the record.
-#[derive(Drop)]
+#[derive(Clone, Copy)]
 pub struct Work {
     pub count: usize,
     pub objection: Objection,

@@ -1,6 +1,8 @@
 // Works examples through the four open operations: the desk table's rows on filings, and every refusal that the programs
 // cannot meet. The examples are in the file `examples` of the working folder, which tools/examples makes of examples.txt. Each
 // has the text that must come out by document 01, which is compared with the one that does.
+#![tactic(auto)]
+
 mod examples;
 mod outcome;
 mod tally;
