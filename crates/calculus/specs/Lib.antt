@@ -3,4 +3,3 @@ pub mod CalculusLaws
 pub mod Tests
 pub mod TestsLaws
 pub mod Simulation
-pub mod SimulationLaws

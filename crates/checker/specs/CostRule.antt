@@ -14,7 +14,7 @@ use Rattle.calculus.specs.CalculusLaws.{IsAdmissible-asks, direct_keeps, direct_
 use Rattle.calculus.specs.declared.Rule.{Rule}
 use Rattle.calculus.specs.declared.Mode.{Mode}
 use Rattle.derivation.specs.Derivation.{Confirmation, confirmed, check_derivation}
-use Rattle.derivation.specs.DerivationLaws.{check_variables, check_configuration, check_cost, confirmed_bound}
+use Rattle.derivation.proofs.DerivationLaws.{check_variables, check_configuration, check_cost, confirmed_bound}
 use Rattle.checker.specs.Checker.{Lent, Left, lent_with, left_by, stepped, lent_formed, step_in, check_in}
 use Rattle.checker.specs.CheckerLaws.{formed_memory, formed_hard, held_list, image_formed, step_well, check_well}
 

@@ -21,7 +21,8 @@ use Rattle.walk.specs.Walk.{read_all}
 use Rattle.problem.specs.Problem.{filing, empty}
 use Rattle.problem.specs.TooLong.{LongEntry, filing_tells}
 use Rattle.derivation.specs.Derivation.{fresh, check_derivation}
-use Rattle.derivation.specs.TooLong.{LongRecord, check_tells}
+use Rattle.derivation.specs.TooLong.{LongRecord}
+use Rattle.derivation.proofs.TooLongLaws.{check_tells}
 use Rattle.listing.specs.Listing.{text_of}
 use Rattle.checker.specs.Checker.{Lent, lent_sized, left_by, written_by, fitting, admitted, lent_formed, step_in, check_in, file_in, write_in, write_under}
 use Rattle.checker.specs.CheckerLaws.{not_refusal, same_refusal, not_sized, not_formed, formed_memory, held_list, check_admitted, check_well, file_sized, file_unsized}

@@ -20,7 +20,7 @@ use Rattle.calculus.specs.declared.Mode.{Mode}
 use Rattle.problem.specs.Problem.{file_problem}
 use Rattle.problem.specs.ProblemLaws.{filed_configuration, filed_hard}
 use Rattle.derivation.specs.Derivation.{Confirmation, check_derivation}
-use Rattle.derivation.specs.DerivationLaws.{check_variables, check_configuration}
+use Rattle.derivation.proofs.DerivationLaws.{check_variables, check_configuration}
 use Rattle.listing.specs.Listing.{text_of}
 use Rattle.checker.specs.Checker.{Lent, lent_sized, Left, stepped, Written, written_by, fitting, lent_formed_under, lent_with, left_by, step_under, check_under, file_under, write_under}
 use Rattle.checker.specs.CheckerLaws.{formed_memory, formed_hard, formed_sized, image_formed, step_well, check_well, write_well, file_sized}

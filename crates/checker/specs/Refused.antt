@@ -14,8 +14,8 @@ use Rattle.memory.specs.MemoryLaws.{back_to_back_lem}
 use Rattle.problem.specs.Problem.{filing, empty, file_problem}
 use Rattle.problem.specs.RefusedLaws.{refused_number, refused_first, refused_prefix}
 use Rattle.derivation.specs.Derivation.{State, Confirmation, checking, fresh, check_derivation}
-use Rattle.derivation.specs.DerivationLaws.{check_variables}
-use Rattle.derivation.specs.RefusedLaws.{check_refused_number, check_refused_first, check_refused_prefix}
+use Rattle.derivation.proofs.DerivationLaws.{check_variables}
+use Rattle.derivation.proofs.RefusedLaws.{check_refused_number, check_refused_first, check_refused_prefix}
 use Rattle.checker.specs.Checker.{Lent, headless, lent_sized, Left, left_of, lent_with, left_by, lent_formed, file_in, check_in}
 use Rattle.checker.specs.CheckerLaws.{same_refusal, not_sized, not_formed, check_admitted, check_well, file_sized, file_unsized}
 

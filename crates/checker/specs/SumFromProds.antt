@@ -16,7 +16,7 @@ use Rattle.memory.specs.MemoryLaws.{back_to_back_lem}
 use Rattle.calculus.specs.Calculus.{changes, direct_step}
 use Rattle.calculus.specs.CalculusLaws.{direct_keeps}
 use Rattle.calculus.specs.Simulation.{Application, apply, by_sum, by_prods, applied, AllAccepted}
-use Rattle.calculus.specs.SimulationLaws.{sum_by_prods, sum_accepted}
+use Rattle.calculus.proofs.SimulationLaws.{sum_by_prods, sum_accepted}
 use Rattle.calculus.specs.TestsLaws.{direct_decided}
 use Rattle.calculus.specs.declared.Rule.{Rule}
 use Rattle.calculus.specs.declared.Rule.TheVariants.{Sum, Prod}

@@ -16,7 +16,7 @@ use Rattle.table.specs.RowsLaws.{lines_from, Entered-at, line_some}
 use Rattle.walk.specs.Walk.{Progress, begun}
 use Rattle.walk.specs.WalkLaws.{gathers, gathers_none}
 use Rattle.derivation.specs.Derivation.{State, fresh, on_record, checking, largest, degree_in, left_after, derivation_degree}
-use Rattle.derivation.specs.DegreeLaws.{degree_ahead, degree_first}
+use Rattle.derivation.proofs.DegreeLaws.{degree_ahead, degree_first}
 use Rattle.derivation.specs.Held.{first_degree}
 
 -- ---- the lines of a table

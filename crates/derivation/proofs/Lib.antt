@@ -3,3 +3,8 @@ pub mod Steps
 pub mod Letters
 pub mod Degrees
 pub mod Loops
+pub mod DerivationLaws
+pub mod RefusedLaws
+pub mod DegreeLaws
+pub mod ContinuedLaws
+pub mod TooLongLaws

@@ -19,9 +19,9 @@ use Rattle.hard.specs.HardLaws.{hard_polynomial}
 use Rattle.table.specs.Rows.{with_lines, Table, lines_of, Fits, made_in}
 use Rattle.walk.proofs.Leads.{Leads, begins, ends, inside, next_leads, unmoved, ends_refused}
 use Rattle.derivation.specs.Derivation.{State, on_record, checking, degree_in, derivation_degree, Confirmation, told_of_check}
-use Rattle.derivation.specs.DerivationLaws.{IsSound, IsSound-fresh, IsSound-record, walked, made_by}
-use Rattle.derivation.specs.DegreeLaws.{lines_run}
-use Rattle.derivation.specs.RefusedLaws.{checking_local}
+use Rattle.derivation.proofs.DerivationLaws.{IsSound, IsSound-fresh, IsSound-record, walked, made_by}
+use Rattle.derivation.proofs.DegreeLaws.{lines_run}
+use Rattle.derivation.proofs.RefusedLaws.{checking_local}
 use Rattle.derivation.specs.Held.{progress_in, opening_of, Held, IsUsable, Leaves}
 use Rattle.derivation.specs.declared.CheckAnswer.{CheckAnswer}
 use Rattle.derivation.specs.declared.Progress.{Progress}

@@ -19,7 +19,7 @@ use Rattle.listing.specs.Writing.{overwritten}
 use Rattle.listing.proofs.Names.{regroup}
 use Rattle.report.specs.Report.{refusal_text, confirmed_text, verdict_text, code_text, line_of}
 use Rattle.refusal.specs.Refusal.{Refusal, refusal_of}
-use Rattle.refusal.specs.RefusalLaws.{number_most}
+use Rattle.refusal.proofs.RefusalLaws.{number_most}
 use Rattle.derivation.specs.Derivation.{told_of_check}
 use Rattle.derivation.specs.declared.CheckAnswer.{CheckAnswer}
 use Rattle.derivation.specs.declared.CheckAnswer.TheVariants.{Confirmed, Refused}

@@ -13,7 +13,7 @@ use Rattle.memory.specs.MemoryLaws.{back_to_back_lem}
 use Rattle.problem.specs.Problem.{FilingMade, file_problem}
 use Rattle.problem.specs.ProblemLaws.{filed_configuration, filed_hard}
 use Rattle.derivation.specs.Derivation.{Confirmation, check_derivation}
-use Rattle.derivation.specs.DerivationLaws.{check_variables, check_configuration}
+use Rattle.derivation.proofs.DerivationLaws.{check_variables, check_configuration}
 use Rattle.listing.specs.Listing.{listing_of}
 use Rattle.listing.specs.Code.{code_of}
 use Rattle.checker.specs.Checker.{Lent, lent_sized, Left, left_of, lent_with, filed_with, file_in, check_in, listed_in, code_in}

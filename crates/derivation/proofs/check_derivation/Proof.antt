@@ -8,8 +8,8 @@ use borrow.Author.Rules.{rules}
 use Rattle.hard.specs.Working.{hard_in}
 use Rattle.table.specs.Rows.{Table, lines_of}
 use Rattle.derivation.specs.Derivation.{derivation_degree}
-use Rattle.derivation.specs.DerivationLaws.{walked, check_is}
-use Rattle.derivation.specs.DegreeLaws.{lines_run}
+use Rattle.derivation.proofs.DerivationLaws.{walked, check_is}
+use Rattle.derivation.proofs.DegreeLaws.{lines_run}
 use Rattle.derivation.proofs.Degrees.{first_degree_lem}
 use Rattle.derivation.proofs.Loops.{Walks, starts, asks, goes_on, fewer, refused_count, refused_there, ends_there}
 use Rattle.derivation.proofs.check_derivation.Statement.{statement}

@@ -9,7 +9,7 @@ use borrow.Author.Rules.{rules}
 use Rattle.listing.specs.Words.{ascii}
 use Rattle.listing.proofs.Writes.{Still, all_still, next_written, rest_fits, rest_written}
 use Rattle.refusal.specs.Refusal.{refusal_of}
-use Rattle.refusal.specs.RefusalLaws.{number_most}
+use Rattle.refusal.proofs.RefusalLaws.{number_most}
 use Rattle.report.specs.Report.{refusal_text, filing_text, line_of}
 use Rattle.report.proofs.Texts.{refusal_short, by_value}
 use Rattle.problem.specs.Problem.{told_of_filing}

@@ -9,7 +9,7 @@ use mir.Syntax.{w64}
 use mir.Val.{to_z, of_z}
 use borrow.Author.Rules.{rules}
 use Rattle.refusal.specs.Refusal.{Refusal, refusal_of}
-use Rattle.refusal.specs.RefusalLaws.{number_most}
+use Rattle.refusal.proofs.RefusalLaws.{number_most}
 use Rattle.report.specs.Report.{refusal_text, confirmed_text, verdict_text, line_of}
 use Rattle.report.proofs.Texts.{refusal_short, confirmed_short, by_value}
 use Rattle.configuration.proofs.Weights.{read_back}

@@ -16,9 +16,9 @@ use Rattle.configuration.specs.Configuration.{Line, some}
 use Rattle.walk.specs.Walk.{Progress, begun, next, over, walk, onward, gathered}
 use Rattle.walk.specs.WalkLaws.{IfAccepted, walk_ind, gathers}
 use Rattle.derivation.specs.Derivation.{State, fresh, going, on_record, checking, largest, degree_in, left_after, derivation_degree, confirmed, check_derivation}
-use Rattle.derivation.specs.DerivationLaws.{record_ind, reached, confirmed_degree, confirmed_closed}
-use Rattle.derivation.specs.RefusedLaws.{record_more, checking_local}
-use Rattle.derivation.specs.DegreeLaws.{degree_ahead, degree_end}
+use Rattle.derivation.proofs.DerivationLaws.{record_ind, reached, confirmed_degree, confirmed_closed}
+use Rattle.derivation.proofs.RefusedLaws.{record_more, checking_local}
+use Rattle.derivation.proofs.DegreeLaws.{degree_ahead, degree_end}
 use Rattle.run.specs.BooleanLaws as B
 
 -- ---- more bytes

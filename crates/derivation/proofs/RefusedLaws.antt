@@ -21,7 +21,7 @@ use Rattle.walk.specs.Work.{term_added}
 use Rattle.walk.specs.WalkLaws.{told_refused, unless_ind, mapped_ind, IfAccepted, Ends, same_outcome, IsLocal, refused_record, turns_records, records_prefix}
 use Rattle.walk.specs.WorkLaws.{term_inside, term_take}
 use Rattle.derivation.specs.Derivation.{State, fresh, going, having, closes, on_mode, on_term, on_choice, after_step, on_step, on_hard, claim_fits, on_claim, on_record, checking, derivation_degree, Confirmation, check_derivation}
-use Rattle.derivation.specs.DerivationLaws.{record_ind, walked, made_by, check_is, check_lines}
+use Rattle.derivation.proofs.DerivationLaws.{record_ind, walked, made_by, check_is, check_lines}
 
 -- ---- an accepted record takes bytes that are there, and counts as one
 record_inside : (n : ℕ) (H : List (List ℕ)) (s : List ℕ) (p q : Progress State) → on_record n H s p ≡ accepted q → (p.at < q.at) × (q.at ≤ length s) × (q.records ≡ suc p.records)

@@ -21,7 +21,7 @@ use Rattle.configuration.specs.LineLaws.{polynomial_run, Every-map, configuratio
 use Rattle.walk.specs.Walk.{Progress, begun, gathered}
 use Rattle.walk.specs.WalkLaws.{walk_ind}
 use Rattle.derivation.specs.Derivation.{State, fresh, checking, largest, degree_in, left_after, on_the_way, derivation_degree, check_derivation}
-use Rattle.derivation.specs.DerivationLaws.{check_lines}
+use Rattle.derivation.proofs.DerivationLaws.{check_lines}
 
 -- ---- the largest of a list
 -- a member has a property
