@@ -221,7 +221,7 @@ fn time_lent(workload: &Workload) {
     fs::create_dir_all(folder).expect("a folder");
     fs::write(folder.join("problem.bin"), &workload.inputs[0].problem).expect("the problem's file");
     fs::write(folder.join("steps.bin"), &workload.inputs[0].steps).expect("the derivation's file");
-    let program = fs::canonicalize("target/bin/lent_calls").expect("the program lent_calls");
+    let program = fs::canonicalize("crates/lent_calls/out/lent_calls").expect("the program lent_calls");
     let mut least = [f64::INFINITY; 4];
     for _ in 0..40 {
         for (calls, least) in ["F", "FFFFF", "FCFCFCFC", "FSRSR"].iter().zip(&mut least) {
