@@ -3,16 +3,35 @@
 
 ghost use Rattle.io.specs.Counts.{IsPrefixLen};
 
-// Reads a file into the bytes and answers how many there are: none where it won't open or can't be read. What the bytes are
-// is the file's affair, and nothing is promised of them.
-pub fn read_file(path: &[u8], out: &mut [u8]) -> usize
+use std::fs::{File, Files};
+use std::io::Read;
+
+// Reads until the bytes are full, the file ends or a read fails, and answers how many bytes stand at the front.
+fn read_full<F: Read>(file: &mut F, out: &mut [u8]) -> usize
     ensures { IsPrefixLen result out.new }
 {
-    let fd = os::open_read(path);
-    if fd < 0 {
-        return 0;
+    let mut done = 0;
+    while done < out.len() {
+        match file.read(&mut out[done..]) {
+            Ok(0) => return done,
+            Ok(n) => done += n,
+            Err(_) => return done,
+        }
     }
-    let size = io::read_full(fd, out);
-    libc::close(fd);
-    size
+    done
+}
+
+// Reads a file into the bytes and answers how many there are: none where it won't open or can't be read, and none where the
+// path is not UTF-8, which the paths of the library are. What the bytes are is the file's affair, and nothing is promised of
+// them.
+pub fn read_file<R: Files>(files: &R, path: &[u8], out: &mut [u8]) -> usize
+    ensures { IsPrefixLen result out.new }
+{
+    let Ok(name) = std::str::from_utf8(path) else {
+        return 0;
+    };
+    match File::open(files, name) {
+        Ok(mut file) => read_full(&mut file, out),
+        Err(_) => 0,
+    }
 }

@@ -3,12 +3,11 @@
 
 ghost use Rattle.std.specs.Prelude.{◌≡◌, ℕ, ◌<◌, length, get_or};
 
+use std::io;
+
 // Writes one code and a line end.
-fn print_code(code: u64) {
-    let mut digits = [0u8; 16];
-    let count = io::hex(code, 16, &mut digits);
-    io::write_all(libc::STDOUT_FILENO, &digits[..count]);
-    io::write_all(libc::STDOUT_FILENO, b"\n");
+fn print_code<P: Print>(to: &P, code: u64) -> io::Result<()> {
+    println!(to; "{code:016x}")
 }
 
 // The bytes 0 to 255, in order.
@@ -25,15 +24,15 @@ fn every_byte() -> [u8; 256]
     bytes
 }
 
-fn main() {
-    print_code(fnv::add_bytes(fnv::start(), b""));
-    print_code(fnv::add_bytes(fnv::start(), b"a"));
-    print_code(fnv::add_bytes(fnv::start(), b"b"));
-    print_code(fnv::add_bytes(fnv::start(), b"fo"));
-    print_code(fnv::add_bytes(fnv::start(), b"foo"));
-    print_code(fnv::add_bytes(fnv::start(), b"foobar"));
+fn main(rt: HostRuntime) -> io::Result<()> {
+    print_code(&rt, fnv::add_bytes(fnv::start(), b""))?;
+    print_code(&rt, fnv::add_bytes(fnv::start(), b"a"))?;
+    print_code(&rt, fnv::add_bytes(fnv::start(), b"b"))?;
+    print_code(&rt, fnv::add_bytes(fnv::start(), b"fo"))?;
+    print_code(&rt, fnv::add_bytes(fnv::start(), b"foo"))?;
+    print_code(&rt, fnv::add_bytes(fnv::start(), b"foobar"))?;
     // The same bytes in two parts give the same code.
-    print_code(fnv::add_bytes(fnv::add_bytes(fnv::start(), b"foo"), b"bar"));
+    print_code(&rt, fnv::add_bytes(fnv::add_bytes(fnv::start(), b"foo"), b"bar"))?;
     let bytes = every_byte();
-    print_code(fnv::add_bytes(fnv::start(), &bytes));
+    print_code(&rt, fnv::add_bytes(fnv::start(), &bytes))
 }

@@ -9,6 +9,7 @@ use example::lending::{check_derivation, file_problem, take_step};
 use example::text::{Text, held};
 use files::read_file;
 use memory::{Entry, Head};
+use std::io;
 use step::Move;
 
 // What goes from one call to the next: the head and the records, and what the last call said. The other areas are lent apart, unlike
@@ -161,23 +162,24 @@ fn call_again(calls: &[u8], problem: &[u8], steps: &[u8]) -> Said {
     lent.said
 }
 
-fn print(text: &[u8]) {
-    io::write_all(libc::STDOUT_FILENO, text);
+fn print<P: Print>(to: &P, text: &[u8]) -> io::Result<()> {
+    to.write_all(text)
 }
 
-fn print_line(text: Text) {
+fn print_line<P: Print>(to: &P, text: Text) -> io::Result<()> {
     let end = held(text);
     let bytes = text.bytes;
-    print(&bytes[..end]);
-    print(b"\n")
+    print(to, &bytes[..end])?;
+    print(to, b"\n")
 }
 
-fn main() {
+fn main(rt: HostRuntime) -> io::Result<()> {
     let mut problem = [0u8; 8192];
     let mut steps = [0u8; 8192];
     let mut calls = [0u8; 1024];
-    let size = read_file(b"problem.bin", &mut problem);
-    let count = read_file(b"steps.bin", &mut steps);
-    let many = read_file(b"calls", &mut calls);
-    print_line(text_of(call_again(&calls[..many], &problem[..size], &steps[..count])))
+    let size = read_file(&rt, b"problem.bin", &mut problem);
+    let count = read_file(&rt, b"steps.bin", &mut steps);
+    let many = read_file(&rt, b"calls", &mut calls);
+    let said = call_again(&calls[..many], &problem[..size], &steps[..count]);
+    print_line(&rt, text_of(said))
 }

@@ -3,20 +3,21 @@
 
 use files::read_file;
 use report::{Text, code_file, held};
+use std::io;
 
-fn print(text: &[u8]) {
-    io::write_all(libc::STDOUT_FILENO, text);
+fn print<P: Print>(to: &P, text: &[u8]) -> io::Result<()> {
+    to.write_all(text)
 }
 
-fn print_line(line: Text) {
+fn print_line<P: Print>(to: &P, line: Text) -> io::Result<()> {
     let end = held(line);
     let text = line.bytes;
-    print(&text[..end])
+    print(to, &text[..end])
 }
 
 // One byte more than a problem may have is read, so that a longer one is told.
-fn main() {
+fn main(rt: HostRuntime) -> io::Result<()> {
     let mut bytes = [0u8; 8193];
-    let size = read_file(b"problem.bin", &mut bytes);
-    print_line(code_file(&bytes[..size]))
+    let size = read_file(&rt, b"problem.bin", &mut bytes);
+    print_line(&rt, code_file(&bytes[..size]))
 }

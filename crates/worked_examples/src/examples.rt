@@ -11,23 +11,25 @@ use example::operations::{lined, operated};
 use example::state::State;
 use example::text::Text;
 use memory::Head;
+use std::io;
 
 // After an example with an outcome. One without a name is there for what it leaves.
-fn judged(data: &[u8], item: Item, state: State, text: Text) -> State {
+fn judged<P: Print>(to: &P, data: &[u8], item: Item, state: State, text: Text) -> io::Result<State> {
     let name = text_at(data, item.name);
     if name.len() == 0 {
-        return state;
+        return Ok(state);
     }
-    state.counted(judge(name, text, text_at(data, item.due)))
+    let right = judge(to, name, text, text_at(data, item.due))?;
+    Ok(state.counted(right))
 }
 
 // After the example that an item is.
-fn worked(data: &[u8], item: Item, before: State) -> State {
+fn worked<P: Print>(to: &P, data: &[u8], item: Item, before: State) -> io::Result<State> {
     if item.kind == LINE {
-        return judged(data, item, before, lined(data, item, before));
+        return judged(to, data, item, before, lined(data, item, before));
     }
     let after = operated(data, item, before);
-    judged(data, item, after, outcome(before, after))
+    judged(to, data, item, after, outcome(before, after))
 }
 
 // After an item of what is lent.
@@ -57,12 +59,12 @@ fn lent(data: &[u8], item: Item, state: State) -> State {
 }
 
 // After the item at a place.
-fn turn(data: &[u8], at: usize, state: State) -> State {
+fn turn<P: Print>(to: &P, data: &[u8], at: usize, state: State) -> io::Result<State> {
     let item = item_at(data, at);
     if item.kind <= HARD_LENT {
-        return lent(data, item, state);
+        return Ok(lent(data, item, state));
     }
-    worked(data, item, state)
+    worked(to, data, item, state)
 }
 
 // The place behind an item, or 0 where it is not one of those above, or not whole.
@@ -80,14 +82,14 @@ fn next_of(data: &[u8], at: usize) -> usize
 }
 
 // All items up to the end.
-pub fn work(data: &[u8]) {
+pub fn work<P: Print>(to: &P, data: &[u8]) -> io::Result<()> {
     let mut state = State::NONE;
     let mut at: usize = 0;
     let mut next = next_of(data, 0);
     while at < next {
-        state = turn(data, at, state);
+        state = turn(to, data, at, state)?;
         at = next;
         next = next_of(data, at);
     }
-    finish(state.worked, state.differ, kind_at(data, at))
+    finish(to, state.worked, state.differ, kind_at(data, at))
 }

@@ -8,10 +8,11 @@ mod outcome;
 mod tally;
 
 use files::read_file;
+use std::io;
 
 // All examples. A file that is longer is cut, which is told.
-fn main() {
+fn main(rt: HostRuntime) -> io::Result<()> {
     let mut data = [0u8; 196608];
-    let size = read_file(b"examples", &mut data);
-    examples::work(&data[..size])
+    let size = read_file(&rt, b"examples", &mut data);
+    examples::work(&rt, &data[..size])
 }

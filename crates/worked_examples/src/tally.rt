@@ -2,44 +2,42 @@
 use check::same;
 use example::item::END;
 use example::text::{Text, held};
+use std::io;
 
 // Prints a text.
-fn print(text: &[u8]) {
-    io::write_all(libc::STDOUT_FILENO, text);
+fn print<P: Print>(to: &P, text: &[u8]) -> io::Result<()> {
+    to.write_all(text)
 }
 
 // Prints an outcome beside the one that is due.
-fn print_both(outcome: &[u8], due: &[u8]) {
-    print(outcome);
-    print(b", should be ");
-    print(due);
-    print(b"\n")
+fn print_both<P: Print>(to: &P, outcome: &[u8], due: &[u8]) -> io::Result<()> {
+    print(to, outcome)?;
+    print(to, b", should be ")?;
+    print(to, due)?;
+    print(to, b"\n")
 }
 
 // Prints the name of an example and whether its outcome is the one that is due, and answers that.
-pub fn judge(name: &[u8], text: Text, due: &[u8]) -> bool {
+pub fn judge<P: Print>(to: &P, name: &[u8], text: Text, due: &[u8]) -> io::Result<bool> {
     let size = held(text);
     let bytes = text.bytes;
     let outcome = &bytes[..size];
-    print(name);
+    print(to, name)?;
     if same(outcome, due) {
-        print(b"as it should be\n");
-        return true;
+        print(to, b"as it should be\n")?;
+        return Ok(true);
     }
-    print_both(outcome, due);
-    false
+    print_both(to, outcome, due)?;
+    Ok(false)
 }
 
 // Prints how many examples there were, if the last item is the end.
-pub fn finish(worked: u64, differ: u64, last: u8) {
+pub fn finish<P: Print>(to: &P, worked: u64, differ: u64, last: u8) -> io::Result<()> {
     if last != END {
-        return print(b"the examples are not whole\n");
+        return println!(to; "the examples are not whole");
     }
-    io::print_decimal(libc::STDOUT_FILENO, worked);
     if differ == 0 {
-        return print(b" examples, all as they should be\n");
+        return println!(to; "{worked} examples, all as they should be");
     }
-    print(b" examples, ");
-    io::print_decimal(libc::STDOUT_FILENO, differ);
-    print(b" differ\n")
+    println!(to; "{worked} examples, {differ} differ")
 }
