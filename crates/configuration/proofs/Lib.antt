@@ -1,3 +1,4 @@
 pub mod Forms
 pub mod Tests
 pub mod Weights
+pub mod Uses

@@ -29,6 +29,7 @@ pub fn is_below(variables: u32, terms: &[u32]) -> bool
 }
 
 // Whether a run of terms is a polynomial of so many variables.
+#[tactic(auto, using(crate::proofs::Uses::uses_form_is_polynomial))]
 pub fn is_polynomial(variables: u32, terms: &[u32]) -> bool
     ensures { result ≡ is_polynomial variables terms.now }
 {

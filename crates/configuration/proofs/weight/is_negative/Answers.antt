@@ -6,15 +6,11 @@ use lib.Signed.{lt_z}
 use mir.Facts.{to_z-of_z}
 use borrow.Author.Tests.{le-ltb}
 use Rattle.configuration.specs.Weight.{is_negative}
-use Rattle.configuration.proofs.weight.is_negative.Statement.{statement}
-use Rattle.configuration.proofs.weight.is_negative.Tie as tie
+use Rattle.configuration.proofs.weight.is_negative.Goals as goal
 
 below_zero : (w : ℤ) → lt_z w (pos 0) ≡ is_negative w
 below_zero (pos n) = le-ltb n 0 (omega arith)
 below_zero (negsuc n) = refl
 
-returns : tie.Need-returns
+pub returns : goal.returns
 returns c = rw (to_z-of_z c.ranges.weight) (below_zero c.args.weight)
-
-pub is_negative_spec : {M : Type 1} → statement M
-is_negative_spec = tie.close (tie.spec returns)
