@@ -41,7 +41,8 @@ pub fn weigh(
     new_weights: &[i64],
     new_counts: &[u32],
 ) -> Changes
-    requires { let t = table_at lines order.now terms.now weights.now counts.now in let four = table_at new_lines new_order.now new_terms.now new_weights.now new_counts.now in
+    requires { let t = table_at lines order.now terms.now weights.now counts.now in
+        let four = table_at new_lines new_order.now new_terms.now new_weights.now new_counts.now in
         Fits 128 t × T (weights_fit (lines_of t)) × Fits 4 four × IsSmall 45 (lines_of four) }
     ensures many { result.many ≡ new_lines }
     ensures rows { let four = table_at new_lines new_order.now new_terms.now new_weights.now new_counts.now in

@@ -44,11 +44,13 @@ pub fn replace(
     new_weights: &[i64],
     new_counts: &[u32],
 ) -> Replaced
-    requires { let t = table_at lines order.old terms.old weights.old counts.old in let four = table_at new_lines new_order.now new_terms.now new_weights.now new_counts.now in
+    requires { let t = table_at lines order.old terms.old weights.old counts.old in
+        let four = table_at new_lines new_order.now new_terms.now new_weights.now new_counts.now in
         Fits 128 t × T (weights_fit (lines_of t)) × Fits 4 four × IsSmall 45 (lines_of four) }
     ensures lines { let L = lines_of (table_at lines order.old terms.old weights.old counts.old) in
         let N = lines_of (table_at new_lines new_order.now new_terms.now new_weights.now new_counts.now) in
-        record { reached = lines_of (table_at result.lines order.new terms.new weights.new counts.new); stop = stop_of result.objection } ≡ after L (within (add_all N L)) }
+        record { reached = lines_of (table_at result.lines order.new terms.new weights.new counts.new); stop = stop_of result.objection }
+        ≡ after L (within (add_all N L)) }
     ensures fits { Fits 128 (table_at result.lines order.new terms.new weights.new counts.new) }
 {
     if new_lines == 0 {
