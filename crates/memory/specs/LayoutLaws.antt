@@ -1,5 +1,5 @@
 -- Laws of every layout: a well-formed memory is the image of its own configuration, and an image of a configuration is well formed.
-use Rattle.std.specs.Prelude.{◌≡◌, Bool, ◌&&◌, ℕ, suc, ◌-◌, T, eqb, ℤ, pos, negsuc, length}
+use Rattle.std.specs.Prelude.{◌≡◌, Bool, ◌&&◌, ℕ, suc, T, eqb, ℤ, pos, negsuc, length}
 use Rattle.std.proofs.Math.Path.{refl, ap₂}
 use Rattle.std.proofs.Common.{ap, subst, sym, arith, eqb→eq, length-append}
 use mathlib.Core.List.{List, [], ◌∷◌}

@@ -10,9 +10,8 @@ use Rattle.polynomial.specs.declared.Ordering.{Ordering}
 use Rattle.polynomial.specs.declared.Ordering.TheVariants.{Earlier, Same, Later}
 use Rattle.polynomial.specs.contracts.Ordering.{the_type}
 use Rattle.configuration.specs.Configuration.{by_order}
-use borrow.Author.Rules.{rules}
-use Rattle.memory.proofs.form.stands_before.Statement.{statement}
-use Rattle.memory.proofs.form.stands_before.Tie as tie
+use borrow.Enum.Refused.{opened}
+use Rattle.memory.proofs.form.stands_before.Goals as goal
 
 abbrev earlier : Ordering → Bool
 earlier o = by_order o true false false
@@ -24,18 +23,9 @@ not_earlier Earlier (inr e) = let z : ⊥ = omega arith in absurd z
 not_earlier Same k = refl
 not_earlier Later k = refl
 
-compare-requires : tie.Need-compare-requires
-compare-requires c κs = search rules
+pub returns-in_default : goal.returns-in_default
+returns-in_default c =
+    sym (not_earlier c.compare-order.result (opened c.in_default.in_default-own.keys2)) ∙ ap earlier c.compare-order.ensures
 
-enum_told : tie.Need-enum-told
-enum_told c = search rules
-
-returns : tie.Need-returns
-returns c =
-    sym (not_earlier c.before.compare.result c.match.keys2) ∙ ap earlier c.before.compare.ensures
-
-returns-2 : tie.Need-returns-2
-returns-2 c = sym (ap earlier c.enum_told.given.1) ∙ ap earlier c.before.before.compare.ensures
-
-pub stands_before_spec : {M : Type 1} → statement M
-stands_before_spec = tie.close (tie.spec compare-requires enum_told returns returns-2)
+pub returns : goal.returns
+returns c = sym (ap earlier c.in-Earlier.is) ∙ ap earlier c.compare-order.ensures
