@@ -1,5 +1,5 @@
 -- Laws of the listing: how long its texts are, that the texts of its numbers one after the other are the whole, and document 01's case.
-use Rattle.std.specs.Prelude.{◌≡◌, refl, List, [], ◌∷◌, ◌++◌, map, ℕ, zero, suc, ◌+◌, ◌-◌, ◌*◌, ◌/◌, ◌%◌, ◌^◌, ◌≤◌, ◌<◌, ltb, eqb, ℤ, pos, negsuc, length, get_or, drop}
+use Rattle.std.specs.Prelude.{◌≡◌, refl, List, [], ◌∷◌, ◌++◌, map, ℕ, zero, suc, ◌+◌, ◌*◌, ◌/◌, ◌%◌, ◌^◌, ◌≤◌, ◌<◌, ltb, eqb, ℤ, pos, negsuc, length, get_or, drop}
 use Rattle.std.proofs.Common.{ap, ap₂, sym, ◌∙◌, append-nil, arith, nltb→le, length-append, drop_of_length-le, drop-cons}
 use Rattle.std.proofs.lemmas.List.{length-map}
 use Rattle.run.specs.BooleanLaws.{cond_ind}
