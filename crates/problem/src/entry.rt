@@ -105,7 +105,8 @@ pub fn on_weight(
 ) -> Recorded
     requires { let t = table_at p.lines order.old terms.old weights.old counts.old in
         (p.at < length bytes.now) × (p.records ≤ p.at) × (length work.now ≡ 64) × (p.work ≤ 64) × Fits 128 t × T (weights_fit (lines_of t)) }
-    ensures { let t = table_at p.lines order.old terms.old weights.old counts.old in let u = table_at result.progress.lines order.new terms.new weights.new counts.new in
+    ensures { let t = table_at p.lines order.old terms.old weights.old counts.old in
+        let u = table_at result.progress.lines order.new terms.new weights.new counts.new in
         ((hs : List ℕ) → Does (on_weight bytes.now) p work.now hs t result work.now hs u) }
 {
     let read = read_weight(bytes, p);
@@ -131,7 +132,8 @@ pub fn on_clause(
 ) -> Recorded
     requires { let t = table_at p.lines order.old terms.old weights.old counts.old in
         (p.at < length bytes.now) × (p.records ≤ p.at) × Fits 128 t × T (weights_fit (lines_of t)) }
-    ensures { let t = table_at p.lines order.old terms.old weights.old counts.old in let u = table_at result.progress.lines order.new terms.new weights.new counts.new in
+    ensures { let t = table_at p.lines order.old terms.old weights.old counts.old in
+        let u = table_at result.progress.lines order.new terms.new weights.new counts.new in
         ((us hs : List ℕ) → Does (on_clause bytes.now) p us hs t result us hs u) }
 {
     let read = read_clause(bytes, p);

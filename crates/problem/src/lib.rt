@@ -66,7 +66,8 @@ fn on_record(
 ) -> Recorded
     requires { let t = table_at p.lines order.old terms.old weights.old counts.old in
         (p.at < length bytes.now) × Held p work.old hard.old t × IsUsable (progress_in p work.old hard.old t).state }
-    ensures { let t = table_at p.lines order.old terms.old weights.old counts.old in let u = table_at result.progress.lines order.new terms.new weights.new counts.new in
+    ensures { let t = table_at p.lines order.old terms.old weights.old counts.old in
+        let u = table_at result.progress.lines order.new terms.new weights.new counts.new in
         Does (on_record bytes.now) p work.old hard.old t result work.new hard.new u }
 {
     let at = p.at;
