@@ -8,3 +8,4 @@ pub mod RefusedLaws
 pub mod DegreeLaws
 pub mod ContinuedLaws
 pub mod TooLongLaws
+pub mod Uses

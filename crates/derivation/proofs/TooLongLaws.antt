@@ -1,5 +1,5 @@
 -- The laws of what a record of a derivation tells that is refused with 7.
-use Rattle.std.specs.Prelude.{◌≡◌, ◌⊎◌, ◌&&◌, List, ℕ, ◌+◌, T, eqb, ℤ, get_or}
+use Rattle.std.specs.Prelude.{◌≡◌, ◌&&◌, List, ℕ, ◌+◌, T, eqb, ℤ, get_or}
 use Rattle.std.proofs.Common.{inl, eqb→eq}
 use Rattle.std.proofs.Math.Logic.{inr}
 use Rattle.std.proofs.Math.Bool.{not}

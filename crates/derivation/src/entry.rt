@@ -315,6 +315,7 @@ fn weight_of_one(lines: usize, order: &[u64], terms: &[u32], weights: &[i64], co
 }
 
 // B: the claim is at most the weight of the polynomial 1, and no line is negative.
+#[tactic(auto, using(crate::proofs::Uses::uses_entry_on_claim))]
 pub fn on_claim(
     bytes: &[u8],
     p: Progress,
