@@ -10,6 +10,7 @@ use memory::{Entry, Head};
 use refusal::{Objection, Reason};
 
 // Whether the areas beside the line table have their lengths.
+#[tactic(auto, using(crate::proofs::Uses::uses_admission_lengths_fit))]
 pub fn lengths_fit(terms: &[u32], counts: &[u32], places: &[u32]) -> bool
     ensures { result ≡ (eqb (length terms.now) 8192
         && (eqb (length counts.now) 16 && eqb (length places.now) 1024)) }

@@ -24,6 +24,7 @@ pub fn unfit() -> LineAnswer
 
 // The text of a number of what is lent, if there is room for it, with the hard list in its working form. It is for `from_entries`, which
 // has tested what is lent and the number.
+#[tactic(auto, using(crate::proofs::Uses::uses_writing_written))]
 fn written(
     area: &mut [u8],
     head: Head,
