@@ -14,7 +14,13 @@ use memory::Head;
 use std::io;
 
 // After an example with an outcome. One without a name is there for what it leaves.
-fn judged<P: Print>(to: &P, data: &[u8], item: Item, state: State, text: Text) -> io::Result<State> {
+fn judged<P: Print>(
+    to: &P,
+    data: &[u8],
+    item: Item,
+    state: State,
+    text: Text,
+) -> io::Result<State> {
     let name = text_at(data, item.name);
     if name.len() == 0 {
         return Ok(state);
