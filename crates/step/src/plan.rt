@@ -43,6 +43,7 @@ fn too_long(terms: usize) -> Plan
 }
 
 // SUM: f and g lose the amount each, f g gains it twice, f + g gains it.
+#[tactic(auto, using(crate::proofs::Uses::uses_plan_plan_sum), unfolding(configuration::specs::Configuration::negated))]
 fn plan_sum(
     f: &[u32],
     g: &[u32],

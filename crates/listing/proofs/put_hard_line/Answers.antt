@@ -1,11 +1,10 @@
 -- `put_hard_line` meets its contract: nothing, or its word and number one behind the other.
-use mathlib.Core.Path.{refl}
-use mathlib.Core.List.{List, [], ◌++◌}
+use mathlib.Core.List.{List, ◌++◌}
 use Prim.Native.Nat.{ℕ}
 use Rattle.listing.specs.Words.{ascii}
 use Rattle.listing.specs.Listing.{decimal, hard_line}
-use Rattle.listing.proofs.Names.{line_of_none, line_of_some}
-use Rattle.listing.proofs.Writes.{Still, all_still, next_fits, next_written, rest_fits, rest_written, none_left}
+use Rattle.listing.proofs.Names.{line_of_some}
+use Rattle.listing.proofs.Writes.{Still, all_still, next_fits, next_written, rest_fits, rest_written}
 use Rattle.listing.proofs.put_hard_line.Goals as goal
 use Rattle.listing.proofs.put_hard_line.Goals.{After-put_bytes-named, After-put_decimal-counted, Else-hard_count-eq0, Start}
 
@@ -33,23 +32,6 @@ counted c =
     next_written c.args.out.now c.args.at (whole (goal.at.After-put_decimal-counted c).Start) h.new.out h.result (decimal c.args.hard_count) (ascii "\n") c.put_decimal-counted.new.out
     c.put_decimal-counted.result (named (goal.at.After-put_decimal-counted c).After-put_bytes-named)
     (c.put_decimal-counted.ensures.end, c.put_decimal-counted.ensures.text)
-
-pub returns-then-hard_count-eq0-clause-end : goal.returns-then-hard_count-eq0-clause-end
-returns-then-hard_count-eq0-clause-end c =
-    let a = c.args in
-    (none_left a.out.now a.at (whole (goal.at.returns-then-hard_count-eq0-clause-end c).Start) a.out.now a.at [] refl
-    (all_still a.out.now a.at (whole (goal.at.returns-then-hard_count-eq0-clause-end c).Start) [] (line_of_none a.hard_count c.if-hard_count-eq0.true) c.requires)).0
-
-pub returns-then-hard_count-eq0-clause-text : goal.returns-then-hard_count-eq0-clause-text
-returns-then-hard_count-eq0-clause-text c =
-    let a = c.args in
-    (none_left a.out.now a.at (whole (goal.at.returns-then-hard_count-eq0-clause-text c).Start) a.out.now a.at [] refl
-    (all_still a.out.now a.at (whole (goal.at.returns-then-hard_count-eq0-clause-text c).Start) [] (line_of_none a.hard_count c.if-hard_count-eq0.true) c.requires)).1
-
-pub put_bytes-named-requires : goal.put_bytes-named-requires
-put_bytes-named-requires c =
-    let a = c.args in
-    next_fits a.out.now a.at (whole (goal.at.put_bytes-named-requires c).Start) a.out.now a.at (ascii "hard ") (number (goal.at.put_bytes-named-requires c).Start) (begun (goal.at.put_bytes-named-requires c).Else-hard_count-eq0)
 
 pub put_decimal-counted-requires : goal.put_decimal-counted-requires
 put_decimal-counted-requires c =

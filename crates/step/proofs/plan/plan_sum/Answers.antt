@@ -1,11 +1,10 @@
 -- `plan_sum` meets its contract: a result of more than 64 terms is told, the product first, and otherwise the table has the four changes of the rule, one after another.
-use mathlib.Core.Path.{◌≡◌, refl, sym, ◌∙◌}
+use mathlib.Core.Path.{◌≡◌, refl}
 use mathlib.Core.List.{List, [], ◌∷◌}
 use Prim.Native.Nat.{ℕ, ◌≤◌}
 use native.Mathlib.Omega.{arith}
 use lib.IntN.{pos, ◌+ℤ◌, ◌-ℤ◌, neg_ℤ}
 use lib.ListN.{length, take}
-use lib.Seq.{length-take-le}
 use mir.Syntax.{w64}
 use mir.Val.{to_z, of_z}
 use mir.Facts.{to_z-of_z}
@@ -20,9 +19,9 @@ use Rattle.replacement.specs.Passes.{IsSmall}
 use Rattle.calculus.specs.Calculus.{conclusions, changes, length_tests}
 use Rattle.calculus.specs.declared.Rule.TheVariants.{Sum}
 use Rattle.table.specs.Rows.{Table}
-use Rattle.step.proofs.Amounts.{negated_fits, negated_is, doubled_fits, doubled_is, IsSmall-changes}
+use Rattle.step.proofs.Amounts.{negated_is, doubled_is, IsSmall-changes}
 use Rattle.step.specs.Stepping.{Finds}
-use Rattle.step.proofs.Plans.{too_long_lem, not_long, room, Folded, Folded-none, fold_asked, fold_given}
+use Rattle.step.proofs.Plans.{too_long_lem, not_long, Folded, Folded-none, fold_asked, fold_given}
 use Rattle.step.proofs.plan.plan_sum.Goals as goal
 use Rattle.step.proofs.plan.plan_sum.Goals.{After-fold_in, After-fold_in-one, After-fold_in-three, After-fold_in-two, After-product-product_length, After-slice_known-12-1, After-slice_known-9-1, After-sum-sum_length, Else-product_length-gt64, Else-sum_length-gt64, Start}
 
@@ -122,9 +121,6 @@ returns-then-sum_length-gt64 c =
     let e = too_long_lem c.sum-sum_length.result (sum_of (left (goal.at.returns-then-sum_length-gt64 c).Start) (right (goal.at.returns-then-sum_length-gt64 c).Start)) (told_sum (goal.at.returns-then-sum_length-gt64 c).After-sum-sum_length).0 [] c.if-sum_length-gt64.true in
     rw c.too_long-then-sum_length-gt64.ensures (past_product (goal.at.returns-then-sum_length-gt64 c).Else-product_length-gt64 (Found (TooManyTerms c.sum-sum_length.result)) e, (none (goal.at.returns-then-sum_length-gt64 c).Start).holds)
 
-pub overflow_sub-lost : goal.overflow_sub-lost
-overflow_sub-lost c = rw (gained (goal.at.overflow_sub-lost c).Start) (negated_fits c.args.amount c.requires.2)
-
 pub fold_in-one-requires : goal.fold_in-one-requires
 unfolding negated
 fold_in-one-requires c =
@@ -135,44 +131,16 @@ unfolding negated
 fold_in-two-requires c =
     fold_asked (one (goal.at.fold_in-two-requires c).After-fold_in-one) (omega arith) refl (lost (goal.at.fold_in-two-requires c).Start) (small (goal.at.fold_in-two-requires c).Start).1.0 c.requires.1.0
 
-pub slice_bounds-product-end : goal.slice_bounds-product-end
-slice_bounds-product-end c =
-    room _ _ _ (told_product (goal.at.slice_bounds-product-end c).After-product-product_length) c.if-product_length-gt64.false
-
-pub slice_bounds-p-end : goal.slice_bounds-p-end
-slice_bounds-p-end c = sym (length-take-le _ _ (slice_bounds-product-end (goal.at.slice_bounds-p-end c).After-slice_known-9-1))
-
-pub overflow_add-twice : goal.overflow_add-twice
-overflow_add-twice c = rw (gained (goal.at.overflow_add-twice c).Start) (doubled_fits c.args.amount c.requires.2)
-
 pub fold_in-three-requires : goal.fold_in-three-requires
 unfolding negated
 fold_in-three-requires c =
     fold_asked (two (goal.at.fold_in-three-requires c).After-fold_in-two) (omega arith) (product_is (goal.at.fold_in-three-requires c).Else-sum_length-gt64) (doubled (goal.at.fold_in-three-requires c).Start) (small (goal.at.fold_in-three-requires c).Start).1.1.0
     (omega (arith, (told_product (goal.at.fold_in-three-requires c).After-product-product_length).0, c.if-product_length-gt64.false))
 
-pub slice_bounds-sum-end : goal.slice_bounds-sum-end
-slice_bounds-sum-end c = room _ _ _ (told_sum (goal.at.slice_bounds-sum-end c).After-sum-sum_length) c.if-sum_length-gt64.false
-
-pub slice_bounds-s-end : goal.slice_bounds-s-end
-slice_bounds-s-end c = sym (length-take-le _ _ (slice_bounds-sum-end (goal.at.slice_bounds-s-end c).After-slice_known-12-1))
-
 pub fold_in-requires : goal.fold_in-requires
 unfolding negated
 fold_in-requires c =
     fold_asked (three (goal.at.fold_in-requires c).After-fold_in-three) (omega arith) (sum_is (goal.at.fold_in-requires c).Else-sum_length-gt64) (gained (goal.at.fold_in-requires c).Start) (small (goal.at.fold_in-requires c).Start).1.1.1.0 (omega (arith, (told_sum (goal.at.fold_in-requires c).After-sum-sum_length).0, c.if-sum_length-gt64.false))
-
-pub shape_of-order : goal.shape_of-order
-shape_of-order c = (four (goal.at.shape_of-order c).After-fold_in).holds.1.order_length ∙ sym c.requires.3.order_length
-
-pub shape_of-terms : goal.shape_of-terms
-shape_of-terms c = (four (goal.at.shape_of-terms c).After-fold_in).holds.1.terms_length ∙ sym c.requires.3.terms_length
-
-pub shape_of-weights : goal.shape_of-weights
-shape_of-weights c = (four (goal.at.shape_of-weights c).After-fold_in).holds.1.weights_length ∙ sym c.requires.3.weights_length
-
-pub shape_of-counts : goal.shape_of-counts
-shape_of-counts c = (four (goal.at.shape_of-counts c).After-fold_in).holds.1.counts_length ∙ sym c.requires.3.counts_length
 
 pub returns : goal.returns
 unfolding negated
