@@ -17,7 +17,7 @@ use table::order::row_at;
 use text::{put_bytes, put_decimal, put_terms, put_weight};
 
 // The header's line of the hard polynomials, which is not there if there are none.
-#[tactic(auto, using(crate::proofs::Names::line_of_none, crate::proofs::Names::line_of_some, crate::proofs::Writes::all_still, crate::proofs::Writes::next_fits, crate::proofs::Writes::next_written, crate::proofs::Writes::rest_fits, crate::proofs::Writes::rest_written, crate::proofs::Writes::none_left))]
+#[tactic(auto, using(crate::proofs::Uses::uses_put_hard_line))]
 fn put_hard_line(out: &mut [u8], at: usize, hard_count: usize) -> usize
     requires { at + length (hard_line hard_count) ≤ length out.old }
     ensures end { result ≡ at + length (hard_line hard_count) }

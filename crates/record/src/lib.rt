@@ -52,7 +52,7 @@ fn number(bytes: &[u8], at: usize) -> u64
 }
 
 // The signed number of eight bytes: the negative ones are the upper half of the unsigned range.
-#[tactic(auto, using(crate::proofs::Numbers::eight_bytes, crate::proofs::Numbers::lower_is, crate::proofs::Numbers::upper_fits, crate::proofs::Numbers::upper_is))]
+#[tactic(auto, using(crate::proofs::Uses::uses_signed_number))]
 fn signed_number(bytes: &[u8], at: usize) -> i64
     requires { at + 8 ≤ length bytes.now }
     ensures { result ≡ signed_at bytes.now at }

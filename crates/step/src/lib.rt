@@ -132,7 +132,7 @@ fn is_named(hard: &[u32], rule: Rule) -> bool
 }
 
 // The mode's tests: a negative line, the rule's hard polynomial, the amount's range, and the weight that is taken away, in that order.
-#[tactic(auto, using(configuration::proofs::Weights::read_back, crate::proofs::Amounts::amount_in_range, crate::proofs::Tests::plain_tests, crate::proofs::Tests::signed_passes))]
+#[tactic(auto, using(crate::proofs::Uses::uses_object))]
 fn object(
     lines: usize,
     order: &[u64],

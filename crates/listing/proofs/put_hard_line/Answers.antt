@@ -1,12 +1,13 @@
 -- `put_hard_line` meets its contract: nothing, or its word and number one behind the other.
 use mathlib.Core.List.{List, ◌++◌}
 use Prim.Native.Nat.{ℕ}
+use borrow.Author.Rules.{rules}
 use Rattle.listing.specs.Words.{ascii}
 use Rattle.listing.specs.Listing.{decimal, hard_line}
 use Rattle.listing.proofs.Names.{line_of_some}
 use Rattle.listing.proofs.Writes.{Still, all_still, next_fits, next_written, rest_fits, rest_written}
 use Rattle.listing.proofs.put_hard_line.Goals as goal
-use Rattle.listing.proofs.put_hard_line.Goals.{After-put_bytes-named, After-put_decimal-counted, Else-hard_count-eq0, Start}
+use Rattle.listing.proofs.put_hard_line.Goals.{After-put_bytes-named, After-put_decimal-counted, Start}
 
 abbrev whole : goal.Start → List ℕ
 whole s = hard_line s.args.hard_count
@@ -16,15 +17,15 @@ abbrev number : goal.Start → List ℕ
 number s = decimal s.args.hard_count ++ ascii "\n"
 
 -- what is still to be written where there are some, and behind each part
-begun : (c : goal.Else-hard_count-eq0) → (let a = c.args in Still a.out.now a.at (whole (goal.at.Else-hard_count-eq0 c).Start) a.out.now a.at (ascii "hard " ++ number (goal.at.Else-hard_count-eq0 c).Start))
+begun : (c : goal.After-put_bytes-named) → (let a = c.args in Still a.out.now a.at (whole (goal.at.After-put_bytes-named c).Start) a.out.now a.at (ascii "hard " ++ number (goal.at.After-put_bytes-named c).Start))
 begun c =
     let a = c.args in
-    all_still a.out.now a.at (whole (goal.at.Else-hard_count-eq0 c).Start) (ascii "hard " ++ number (goal.at.Else-hard_count-eq0 c).Start) (line_of_some a.hard_count c.if-hard_count-eq0.false) c.requires
+    all_still a.out.now a.at (whole (goal.at.After-put_bytes-named c).Start) (ascii "hard " ++ number (goal.at.After-put_bytes-named c).Start) (line_of_some a.hard_count (search rules)) c.requires
 
 named : (c : goal.After-put_bytes-named) → (Still c.args.out.now c.args.at (whole (goal.at.After-put_bytes-named c).Start) c.put_bytes-named.new.out c.put_bytes-named.result (number (goal.at.After-put_bytes-named c).Start))
 named c =
     let a = c.args in
-    next_written a.out.now a.at (whole (goal.at.After-put_bytes-named c).Start) a.out.now a.at (ascii "hard ") (number (goal.at.After-put_bytes-named c).Start) c.put_bytes-named.new.out c.put_bytes-named.result (begun (goal.at.After-put_bytes-named c).Else-hard_count-eq0) (c.put_bytes-named.ensures.end, c.put_bytes-named.ensures.text)
+    next_written a.out.now a.at (whole (goal.at.After-put_bytes-named c).Start) a.out.now a.at (ascii "hard ") (number (goal.at.After-put_bytes-named c).Start) c.put_bytes-named.new.out c.put_bytes-named.result (begun c) (c.put_bytes-named.ensures.end, c.put_bytes-named.ensures.text)
 
 counted : (c : goal.After-put_decimal-counted) → (Still c.args.out.now c.args.at (whole (goal.at.After-put_decimal-counted c).Start) c.put_decimal-counted.new.out c.put_decimal-counted.result (ascii "\n"))
 counted c =

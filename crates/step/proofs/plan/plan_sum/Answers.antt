@@ -23,7 +23,7 @@ use Rattle.step.proofs.Amounts.{negated_is, doubled_is, IsSmall-changes}
 use Rattle.step.specs.Stepping.{Finds}
 use Rattle.step.proofs.Plans.{too_long_lem, not_long, Folded, Folded-none, fold_asked, fold_given}
 use Rattle.step.proofs.plan.plan_sum.Goals as goal
-use Rattle.step.proofs.plan.plan_sum.Goals.{After-fold_in, After-fold_in-one, After-fold_in-three, After-fold_in-two, After-product-product_length, After-slice_known-12-1, After-slice_known-9-1, After-sum-sum_length, Else-product_length-gt64, Else-sum_length-gt64, Start}
+use Rattle.step.proofs.plan.plan_sum.Goals.{After-fold_in, After-fold_in-one, After-fold_in-three, After-fold_in-two, After-product-product_length, After-slice_known-12-1, After-slice_known-9-1, After-sum-sum_length, Else-sum_length-gt64, Start}
 
 -- ---- the operands, and the changes of the rule
 abbrev left : goal.Start → List ℕ
@@ -74,16 +74,16 @@ told_sum c =
 abbrev ruled : goal.Start → List Line
 ruled s = conclusions [] Sum (left s) (right s) s.args.amount
 
-past_product : (c : goal.Else-product_length-gt64) → (found : Objection) → (Finds (short (sum_of (left (goal.at.Else-product_length-gt64 c).Start) (right (goal.at.Else-product_length-gt64 c).Start)) ∷ []) found → Finds (length_tests (ruled (goal.at.Else-product_length-gt64 c).Start)) found)
+past_product : (c : goal.After-sum-sum_length) → (found : Objection) → (Finds (short (sum_of (left (goal.at.After-sum-sum_length c).Start) (right (goal.at.After-sum-sum_length c).Start)) ∷ []) found → Finds (length_tests (ruled (goal.at.After-sum-sum_length c).Start)) found)
 past_product c found =
-    not_long _ (product_of (left (goal.at.Else-product_length-gt64 c).Start) (right (goal.at.Else-product_length-gt64 c).Start)) (told_product (goal.at.Else-product_length-gt64 c).After-product-product_length).0 (short (sum_of (left (goal.at.Else-product_length-gt64 c).Start) (right (goal.at.Else-product_length-gt64 c).Start)) ∷ []) found c.if-product_length-gt64.false
+    not_long _ (product_of (left (goal.at.After-sum-sum_length c).Start) (right (goal.at.After-sum-sum_length c).Start)) (told_product (goal.at.After-sum-sum_length c).After-product-product_length).0 (short (sum_of (left (goal.at.After-sum-sum_length c).Start) (right (goal.at.After-sum-sum_length c).Start)) ∷ []) found (omega arith)
 
 fits : (c : goal.Else-sum_length-gt64) → Finds (length_tests (ruled (goal.at.Else-sum_length-gt64 c).Start)) Nothing
 fits c =
-    past_product (goal.at.Else-sum_length-gt64 c).Else-product_length-gt64 Nothing (not_long _ (sum_of (left (goal.at.Else-sum_length-gt64 c).Start) (right (goal.at.Else-sum_length-gt64 c).Start)) (told_sum (goal.at.Else-sum_length-gt64 c).After-sum-sum_length).0 [] Nothing c.if-sum_length-gt64.false (λ o. refl))
+    past_product (goal.at.Else-sum_length-gt64 c).After-sum-sum_length Nothing (not_long _ (sum_of (left (goal.at.Else-sum_length-gt64 c).Start) (right (goal.at.Else-sum_length-gt64 c).Start)) (told_sum (goal.at.Else-sum_length-gt64 c).After-sum-sum_length).0 [] Nothing c.if-sum_length-gt64.false (λ o. refl))
 
 product_is : (c : goal.Else-sum_length-gt64) → (let k = c.product-product_length in take k.result k.new.out ≡ product_of (left (goal.at.Else-sum_length-gt64 c).Start) (right (goal.at.Else-sum_length-gt64 c).Start))
-product_is c = (told_product (goal.at.Else-sum_length-gt64 c).After-product-product_length).1 c.if-product_length-gt64.false
+product_is c = (told_product (goal.at.Else-sum_length-gt64 c).After-product-product_length).1 (omega arith)
 
 sum_is : (c : goal.Else-sum_length-gt64) → (let k = c.sum-sum_length in take k.result k.new.out ≡ sum_of (left (goal.at.Else-sum_length-gt64 c).Start) (right (goal.at.Else-sum_length-gt64 c).Start))
 sum_is c = (told_sum (goal.at.Else-sum_length-gt64 c).After-sum-sum_length).1 c.if-sum_length-gt64.false
@@ -119,7 +119,7 @@ returns-then-product_length-gt64 c =
 pub returns-then-sum_length-gt64 : goal.returns-then-sum_length-gt64
 returns-then-sum_length-gt64 c =
     let e = too_long_lem c.sum-sum_length.result (sum_of (left (goal.at.returns-then-sum_length-gt64 c).Start) (right (goal.at.returns-then-sum_length-gt64 c).Start)) (told_sum (goal.at.returns-then-sum_length-gt64 c).After-sum-sum_length).0 [] c.if-sum_length-gt64.true in
-    rw c.too_long-then-sum_length-gt64.ensures (past_product (goal.at.returns-then-sum_length-gt64 c).Else-product_length-gt64 (Found (TooManyTerms c.sum-sum_length.result)) e, (none (goal.at.returns-then-sum_length-gt64 c).Start).holds)
+    rw c.too_long-then-sum_length-gt64.ensures (past_product (goal.at.returns-then-sum_length-gt64 c).After-sum-sum_length (Found (TooManyTerms c.sum-sum_length.result)) e, (none (goal.at.returns-then-sum_length-gt64 c).Start).holds)
 
 pub fold_in-one-requires : goal.fold_in-one-requires
 unfolding negated
@@ -135,7 +135,7 @@ pub fold_in-three-requires : goal.fold_in-three-requires
 unfolding negated
 fold_in-three-requires c =
     fold_asked (two (goal.at.fold_in-three-requires c).After-fold_in-two) (omega arith) (product_is (goal.at.fold_in-three-requires c).Else-sum_length-gt64) (doubled (goal.at.fold_in-three-requires c).Start) (small (goal.at.fold_in-three-requires c).Start).1.1.0
-    (omega (arith, (told_product (goal.at.fold_in-three-requires c).After-product-product_length).0, c.if-product_length-gt64.false))
+    (omega (arith, (told_product (goal.at.fold_in-three-requires c).After-product-product_length).0))
 
 pub fold_in-requires : goal.fold_in-requires
 unfolding negated
