@@ -416,7 +416,7 @@ hard_permuted (swap (hard f) (weighted g w) C n) = refl
 hard_permuted (swap (hard f) (hard g) C n) = absurd n
 hard_permuted (trans C D E h k) = hard_permuted h ∙ hard_permuted k
 
--- permuted entries satisfy what same-problem asks
+-- permuted entries satisfy what same_problem asks
 pub permuted : (s t : List ℕ) (n : ℕ) → Permuted (entries s) (entries t)
     → ((f : List ℕ) → agrees n f ZERO ≡ false → total (agrees n f) (weighted_items (entries s)) ≡ total (agrees n f) (weighted_items (entries t)))
     × (hard_items (entries s) ≡ hard_items (entries t))
