@@ -1,3 +1,4 @@
+-- `len` meets its contract: what is read has at most 64 terms.
 use Rattle.hard.specs.HardLaws.{all_read}
 use Rattle.hard.proofs.HardList.len.Goals as goal
 

@@ -1,3 +1,4 @@
+-- `new` meets its contract: an area of zeros is that of the empty list.
 use Rattle.std.proofs.Common.{refl, arith}
 use Rattle.hard.specs.Hard.{read_hard, laid_hard}
 use Rattle.hard.proofs.HardList.new.Goals as goal
