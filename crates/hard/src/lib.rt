@@ -35,6 +35,7 @@ impl Model for HardList {
 }
 
 impl HardList {
+    #[tactic(auto, unfolding(crate::specs::Hard::laid_hard, crate::specs::Hard::read_hard))]
     pub fn new() -> HardList
         ensures { result ≡ [] }
     {
@@ -63,6 +64,7 @@ impl HardList {
         })
     }
 
+    #[tactic(auto, using(crate::specs::HardLaws::all_read))]
     pub fn len(&self) -> usize
         ensures number { result ≡ length self.now }
         ensures few { result ≤ 16 }
