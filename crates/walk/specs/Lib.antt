@@ -2,3 +2,4 @@ pub mod Walk
 pub mod Work
 pub mod WalkLaws
 pub mod WorkLaws
+pub mod Held

@@ -1,13 +1,10 @@
--- `add_term` meets its contract: the body, the variables and the length of the sum are tested in the definition's order.
-use mathlib.Core.Path.{◌≡◌, sym, ◌∙◌}
-use mathlib.Core.Bool.{true}
-use Prim.Native.Nat.{◌^◌, ◌≤◌, ◌<◌}
-use native.Mathlib.Omega.{arith}
-use lib.Dec.{ltb}
-use lib.ListN.{take}
-use Rattle.record.specs.Record.{mask_in}
+-- The body, the variables and the length of the sum are tested in the definition's order.
+use Rattle.std.proofs.Common.{◌≡◌, sym, ◌∙◌, true, ◌^◌, ◌≤◌, ◌<◌, rules, length}
+use Rattle.std.specs.Prelude.{ltb}
 use Rattle.std.specs.declared.option.Option.TheVariants.{Some}
+use Rattle.record.specs.Record.{mask_in}
 use Rattle.walk.proofs.Terms.{cut_short, unknown, too_long_lem, added}
+use Rattle.polynomial.specs.Polynomial.{terms_of}
 use Rattle.walk.proofs.add_term.Goals as goal
 use Rattle.walk.proofs.add_term.Goals.{After-toggle-sum}
 
@@ -20,30 +17,25 @@ known c = sym c.is_term.ensures ∙ c.if-not-is_term.false
 pub returns-in_default : goal.returns-in_default
 returns-in_default c =
     let a = c.args in
-    let f = take a.count a.work.now in
-    rw c.refused.ensures (record { sum = cut_short a.variables a.bytes.now a.at f (sym c.read_mask.ensures ∙ c.in_default.is); room = c.requires.1 })
+    record { sum = cut_short a.variables a.bytes.now a.at (terms_of a.work.now) (sym c.read_mask.ensures ∙ c.in_default.is); room = c.requires.room }
 
-pub returns-then-not-is_term : goal.returns-then-not-is_term
-returns-then-not-is_term c =
+pub returns-then-not-is_term-clause-sum : goal.returns-then-not-is_term-clause-sum
+returns-then-not-is_term-clause-sum c =
     let a = c.args in
-    let f = take a.count a.work.now in
-    rw c.refused-then-not-is_term.ensures (record {
-      sum = unknown a.variables a.bytes.now a.at f _
-          (sym c.read_mask.ensures ∙ c.in-Some.is)
-          (sym c.is_term.ensures ∙ c.if-not-is_term.true);
-      room = c.requires.1;
-    })
+    unknown a.variables a.bytes.now a.at (terms_of a.work.now) _ (sym c.read_mask.ensures ∙ c.in-Some.is) (sym c.is_term.ensures ∙ c.if-not-is_term.true)
 
-pub returns-then-sum-gt64 : goal.returns-then-sum-gt64
-returns-then-sum-gt64 c =
+pub returns-then-not-fits-clause-sum : goal.returns-then-not-fits-clause-sum
+returns-then-not-fits-clause-sum c =
     let a = c.args in
-    let f = take a.count a.work.now in
-    let l : 64 < c.toggle-sum.result = omega arith in
-    rw (c.refused-then-sum-gt64.ensures, c.toggle-sum.ensures.full (rw c.requires.0 l)) (record { sum = too_long_lem a.variables a.bytes.now a.at f _ (read (goal.at.returns-then-sum-gt64 c).After-toggle-sum) (known (goal.at.returns-then-sum-gt64 c).After-toggle-sum) _ c.toggle-sum.ensures.size l; room = c.requires.1 })
+    let n : length a.work.now.terms ≡ 64 = search rules in
+    let l : 64 < c.toggle-sum.result = c.if-not-fits.true in
+    rw (c.toggle-sum.ensures.full (rw n l)) (too_long_lem a.variables a.bytes.now a.at (terms_of a.work.now) _ (read (goal.at.returns-then-not-fits-clause-sum c).After-toggle-sum)
+    (known (goal.at.returns-then-not-fits-clause-sum c).After-toggle-sum) _ c.toggle-sum.ensures.size l)
 
-pub returns : goal.returns
-returns c =
+pub returns-clause-sum : goal.returns-clause-sum
+returns-clause-sum c =
     let a = c.args in
-    let f = take a.count a.work.now in
-    let l : c.toggle-sum.result ≤ 64 = omega arith in
-    rw (c.toggle-sum.ensures.sum (rw c.requires.0 l)) (record { sum = added a.variables a.bytes.now a.at f _ (read (goal.at.returns c).After-toggle-sum) (known (goal.at.returns c).After-toggle-sum) (rw c.toggle-sum.ensures.size at l); room = l })
+    let n : length a.work.now.terms ≡ 64 = search rules in
+    let l : c.toggle-sum.result ≤ 64 = c.if-not-fits.false in
+    rw (c.toggle-sum.ensures.sum (rw n l)) (added a.variables a.bytes.now a.at (terms_of a.work.now) _ (read (goal.at.returns-clause-sum c).After-toggle-sum)
+    (known (goal.at.returns-clause-sum c).After-toggle-sum) (rw c.toggle-sum.ensures.size at l))
