@@ -6,3 +6,5 @@ pub mod Held
 pub mod Searches
 pub mod Places
 pub mod Written
+pub mod Lined
+pub mod Turns

@@ -1,0 +1,27 @@
+-- A table as the list of its lines.
+use Rattle.std.specs.Prelude.{List, [], ◌∷◌, ℕ, ◌/◌, ◌^◌, ℤ, pos, get_or}
+use Rattle.term.specs.Term.{degree_of}
+use Rattle.configuration.specs.Configuration.{Line, line, polynomial_of}
+use Rattle.table.specs.Rows.{first_key}
+
+abbrev pub no_line : Line
+no_line = line [] (pos 0)
+
+-- the polynomial and the weight of the line at a place
+abbrev pub terms_at : List Line → ℕ → List ℕ
+terms_at L i = polynomial_of (get_or L i no_line)
+
+abbrev pub weight_in : Line → ℤ
+weight_in (line f w) = w
+
+abbrev pub weight_at : List Line → ℕ → ℤ
+weight_at L i = weight_in (get_or L i no_line)
+
+-- the degree of the first term of the first line, which is the largest of all: the key has it
+abbrev pub first_degree : List Line → ℕ
+first_degree L = first_key (terms_at L 0) / 2 ^ 32
+
+-- the degree of a polynomial's first term: 0 where there is none
+abbrev pub leading_degree : List ℕ → ℕ
+leading_degree [] = 0
+leading_degree (t ∷ f) = degree_of t
