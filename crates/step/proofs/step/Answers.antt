@@ -1,82 +1,73 @@
--- `step` meets its contract: what is found against the step stands in front of the rest of it.
-use mathlib.Core.Path.{◌≡◌, sym, ap, ◌∙◌}
-use mathlib.Core.List.{List}
-use Prim.Native.Nat.{ℕ}
-use lib.Dec.{T}
+-- `step` meets its contract: what is found against the step stands in front of its plan, and that in front of the replacement.
+use mathlib.Core.Path.{◌≡◌, subst, ◌∙◌}
+use mathlib.Core.List.{[]}
 use mir.Syntax.{w64}
 use mir.Val.{to_z, of_z}
-use Rattle.refusal.specs.Outcome.{Outcome, after, objected}
-use Rattle.refusal.specs.declared.Objection.{Objection}
-use Rattle.configuration.specs.Weight.{in_range}
-use Rattle.configuration.specs.Configuration.{Line}
-use Rattle.configuration.proofs.Weights.{read_back}
-use Rattle.hard.specs.Working.{hard_in}
-use Rattle.calculus.specs.Calculus.{rule_named, changed, step}
-use Rattle.table.specs.Rows.{Table, lines_of}
-use Rattle.step.specs.declared.Move.{Move}
-use Rattle.step.proofs.Tests.{objected_is, in_range_lem, is_named}
+use Rattle.std.proofs.Common.{rules}
+use Rattle.std.specs.declared.result.Result.TheVariants.{Ok}
+use Rattle.std.proofs.lemmas.Result.{err_from_is_err_and}
+use Rattle.configuration.specs.Configuration.{add_all}
+use Rattle.calculus.specs.Calculus.{changes}
+use Rattle.replacement.specs.Passes.{IsSmall}
+use Rattle.step.specs.Stepping.{HasPlan}
+use Rattle.step.proofs.Plans.{IsSmall-folded}
+use Rattle.step.proofs.Tests.{step_refused, in_range_lem, is_named, plan_refused, planned, step_taken}
 use Rattle.step.proofs.step.Goals as goal
-use Rattle.step.proofs.step.Goals.{After-object-objection, After-struct_told-1, In_default, Start}
+use Rattle.step.proofs.step.Goals.{After-plan_of, Start}
 
-abbrev table : goal.Start → Table
-table s = let a = s.args in record { lines = a.lines; order = a.order.now; terms = a.terms.now; weights = a.weights.now; counts = a.counts.now }
+exact : (s : goal.Start) → to_z w64 (of_z w64 s.args.asked.amount) ≡ s.args.asked.amount
+exact s = search rules
 
-abbrev listed : goal.Start → List (List ℕ)
-listed s = hard_in s.args.hard.now
-
-abbrev asked : goal.Start → Move
-asked s = s.args.asked
-
--- what follows the tests of the mode
-abbrev rest_of : goal.Start → Outcome (List Line)
-rest_of s = let a = s.args in changed (listed s) (asked s).rule a.f.now a.g.now (asked s).amount (lines_of (table s))
-
-found : (c : goal.After-object-objection) → (
+pub returns-in_err-object : goal.returns-in_err-object
+returns-in_err-object c =
     let a = c.args in
-    let L = lines_of (table (goal.at.After-object-objection c).Start) in
-    after L (objected c.object-objection.result (rest_of (goal.at.After-object-objection c).Start)) ≡ after L (step (listed (goal.at.After-object-objection c).Start) (asked (goal.at.After-object-objection c).Start).rule (asked (goal.at.After-object-objection c).Start).mode a.f.now a.g.now (asked (goal.at.After-object-objection c).Start).amount L))
-found c =
+    let m = a.asked in
+    let p = err_from_is_err_and c.from_residual.result c.from_residual.ensures.1 in
+    rw (p.1, p.2) (step_refused a.hard.now m.rule m.mode a.f.now a.g.now m.amount a.table.now c.object.result c.object.ensures c.in_err-object.field-0.0 c.in_err-object.was)
+
+pub plan_of-requires : goal.plan_of-requires
+plan_of-requires c =
     let a = c.args in
-    let m = asked (goal.at.After-object-objection c).Start in
-    ap (after (lines_of (table (goal.at.After-object-objection c).Start)))
-    (objected_is (listed (goal.at.After-object-objection c).Start) m.rule m.mode a.f.now a.g.now m.amount (lines_of (table (goal.at.After-object-objection c).Start)) c.object-objection.result c.object-objection.ensures)
+    let m = a.asked in (
+      is_named a.hard.now m.rule m.mode a.f.now a.g.now m.amount a.table.now c.object.result c.object.ensures c.in_ok-object.field-0 c.in_ok-object.was,
+      c.requires.1,
+      c.requires.2,
+      rw (exact (goal.at.plan_of-requires c).Start) (in_range_lem a.hard.now m.rule m.mode a.f.now a.g.now m.amount a.table.now c.object.result c.object.ensures c.in_ok-object.field-0 c.in_ok-object.was),
+      c.new-changes.ensures,
+    )
 
--- by what was found
-by_objection : (c : goal.After-object-objection) → {o : Objection} → c.object-objection.result ≡ o → (let L = lines_of (table (goal.at.After-object-objection c).Start) in after L (objected o (rest_of (goal.at.After-object-objection c).Start)) ≡ after L (objected c.object-objection.result (rest_of (goal.at.After-object-objection c).Start)))
-by_objection c e = ap (λ (o : Objection). after (lines_of (table (goal.at.After-object-objection c).Start)) (objected o (rest_of (goal.at.After-object-objection c).Start))) (sym e)
+plan : (c : goal.After-plan_of) → (let a = c.args in HasPlan a.hard.now a.asked.rule a.f.now a.g.now a.asked.amount c.plan_of.result c.plan_of.new.changes)
+plan c = rw (exact (goal.at.After-plan_of c).Start) at c.plan_of.ensures
 
--- where nothing was, the rule and the amount fit
-amount_fits : (c : goal.In_default) → T (in_range (asked (goal.at.In_default c).Start).amount)
-amount_fits c =
+pub returns-in_err-plan_of : goal.returns-in_err-plan_of
+returns-in_err-plan_of c =
     let a = c.args in
-    let m = asked (goal.at.In_default c).Start in
-    in_range_lem (listed (goal.at.In_default c).Start) m.rule m.mode a.f.now a.g.now m.amount (lines_of (table (goal.at.In_default c).Start)) c.object-objection.result c.object-objection.ensures c.in_default.is
+    let m = a.asked in
+    let p = err_from_is_err_and c.from_residual-in_err-plan_of.result c.from_residual-in_err-plan_of.ensures.1 in
+    rw (p.1, p.2) (plan_refused a.hard.now m.rule m.mode a.f.now a.g.now m.amount a.table.now c.object.result c.object.ensures c.in_ok-object.field-0 c.in_ok-object.was
+    c.plan_of.result c.plan_of.new.changes (plan (goal.at.returns-in_err-plan_of c).After-plan_of) c.in_err-plan_of.field-0.0 c.in_err-plan_of.was)
 
-rule-named : (c : goal.In_default) → (T (rule_named (listed (goal.at.In_default c).Start) (asked (goal.at.In_default c).Start).rule))
-rule-named c =
+-- the changes that are folded in, and what they leave
+folded : (c : goal.After-plan_of) → (u : Unit {0}) → (v : Unit {0}) → (let a = c.args in let H = a.hard.now in let m = a.asked in c.object.result ≡ Ok u → c.plan_of.result ≡ Ok v
+    → add_all (changes H m.rule a.f.now a.g.now m.amount) [] ≡ c.plan_of.new.changes)
+folded c u v e q =
     let a = c.args in
-    let m = asked (goal.at.In_default c).Start in
-    is_named (listed (goal.at.In_default c).Start) m.rule m.mode a.f.now a.g.now m.amount (lines_of (table (goal.at.In_default c).Start)) c.object-objection.result c.object-objection.ensures c.in_default.is
+    let m = a.asked in
+    planned a.hard.now m.rule m.mode a.f.now a.g.now m.amount a.table.now c.object.result c.object.ensures u e c.plan_of.result c.plan_of.new.changes (plan c) v q
 
-exact : (c : goal.After-struct_told-1) → (let w = (asked (goal.at.After-struct_told-1 c).Start).amount in to_z w64 (of_z w64 w) ≡ w)
-exact c = read_back (asked (goal.at.After-struct_told-1 c).Start).amount c.struct_told-1.given.1.1.0.1
+pub replace-requires : goal.replace-requires
+replace-requires c =
+    let a = c.args in
+    let m = a.asked in (
+      c.requires.0,
+      subst (IsSmall 45) (folded (goal.at.replace-requires c).After-plan_of c.in_ok-object.field-0 c.in_ok-plan_of.field-0 c.in_ok-object.was c.in_ok-plan_of.was)
+          (IsSmall-folded a.hard.now m.rule a.f.now a.g.now m.amount (in_range_lem a.hard.now m.rule m.mode a.f.now a.g.now m.amount a.table.now c.object.result c.object.ensures c.in_ok-object.field-0 c.in_ok-object.was)),
+    )
 
-pub returns-in-Found-clause-lines : goal.returns-in-Found-clause-lines
-returns-in-Found-clause-lines c = by_objection (goal.at.returns-in-Found-clause-lines c).After-object-objection c.in-Found.is ∙ found (goal.at.returns-in-Found-clause-lines c).After-object-objection
-
-pub returns-in-Found-clause-fits : goal.returns-in-Found-clause-fits
-returns-in-Found-clause-fits c = c.requires.0
-
-pub change-requires : goal.change-requires
-change-requires c =
-    (c.requires.0, c.requires.1, (c.requires.2, rule-named (goal.at.change-requires c).In_default), c.requires.3, c.requires.4, rw (exact (goal.at.change-requires c).After-struct_told-1) (amount_fits (goal.at.change-requires c).In_default))
-
-pub returns-clause-lines : goal.returns-clause-lines
-returns-clause-lines c =
-    let e = rw (exact (goal.at.returns-clause-lines c).After-struct_told-1) at c.change.ensures.lines in
-    e ∙ by_objection (goal.at.returns-clause-lines c).After-object-objection c.in_default.is ∙ found (goal.at.returns-clause-lines c).After-object-objection
-
-pub returns-clause-fits : goal.returns-clause-fits
-returns-clause-fits c =
-    let e = rw (exact (goal.at.returns-clause-fits c).After-struct_told-1) at c.change.ensures.lines in
-    c.change.ensures.fits
+pub returns : goal.returns
+returns c =
+    let a = c.args in
+    let m = a.asked in
+    c.replace.ensures
+    ∙ step_taken a.hard.now m.rule m.mode a.f.now a.g.now m.amount a.table.now c.object.result c.object.ensures c.in_ok-object.field-0 c.in_ok-object.was
+    c.plan_of.result c.plan_of.new.changes (plan (goal.at.returns c).After-plan_of) c.in_ok-plan_of.field-0 c.in_ok-plan_of.was c.len-lines.ensures.ordered

@@ -1,5 +1,5 @@
--- `plan_prod` meets its contract: a result of more than 64 terms is told, f g first, one of no terms leaves the table empty, and otherwise the table has the
--- three changes of the rule, one after another, since f g + f is f (g + 1).
+-- `plan_prod` meets its contract: a result of more than 64 terms is told, the product first, and otherwise the changes of the rule are folded one after another;
+-- where one result is 0, there are none.
 use mathlib.Core.Path.{◌≡◌, refl, sym, ap, ◌∙◌}
 use mathlib.Core.Logic.{◌⊎◌, inl, inr}
 use mathlib.Core.List.{List, [], ◌∷◌}
@@ -7,39 +7,33 @@ use Prim.Native.Nat.{ℕ, ◌≤◌}
 use native.Mathlib.Omega.{arith}
 use lib.IntN.{pos, ◌-ℤ◌, neg_ℤ}
 use lib.ListN.{length, take}
-use lib.Seq.{length-take-le}
 use mir.Syntax.{w64}
 use mir.Val.{to_z, of_z}
 use mir.Facts.{to_z-of_z}
-use Rattle.refusal.specs.declared.Objection.{Objection}
-use Rattle.refusal.specs.declared.Objection.TheVariants.{Nothing, Found}
-use Rattle.refusal.specs.declared.Reason.TheVariants.{TooManyTerms}
+use Rattle.refusal.specs.Outcome.{accepted, passing}
 use Rattle.polynomial.specs.Polynomial.{ONE, sum_of, product_of}
 use Rattle.polynomial.specs.PolynomialLaws.{exact}
-use Rattle.configuration.specs.Configuration.{Line, negated}
+use Rattle.configuration.specs.Configuration.{Line, add_all, negated}
 use Rattle.configuration.specs.Limits.{short}
 use Rattle.replacement.specs.Passes.{IsSmall}
-use Rattle.calculus.specs.Calculus.{conclusions, changes, length_tests}
+use Rattle.calculus.specs.Calculus.{changes}
 use Rattle.calculus.specs.declared.Rule.TheVariants.{Prod}
-use Rattle.table.specs.Rows.{Table}
-use Rattle.step.specs.Stepping.{Finds, HasPlan}
-use Rattle.step.proofs.Amounts.{negated_fits, negated_is, IsSmall-changes}
-use Rattle.step.proofs.Plans.{too_long_lem, not_long, room, plus_one, Folded, Folded-none, fold_asked, fold_given, made_none}
+use Rattle.step.proofs.Amounts.{negated_is, IsSmall-changes}
+use Rattle.step.proofs.Plans.{too_long_lem, not_long, plus_one, Folded, Folded-none, fold_asked, fold_given, made_none}
 use Rattle.step.proofs.plan.plan_prod.Goals as goal
-use Rattle.step.proofs.plan.plan_prod.Goals.{After-fold_in, After-fold_in-one, After-fold_in-two, After-product-n, After-slice_known-9-1, After-sum-m, Else-m-gt64, Else-n-gt64, Start}
+use Rattle.step.proofs.plan.plan_prod.Goals.{After-add, After-add-2, After-add-3, After-product-n, After-sum-m, Else-m-gt64, Else-n-gt64, Start}
 
--- ---- the operands, and the changes of the rule
-abbrev left : goal.Start → List ℕ
-left s = s.args.f.now
+abbrev product : goal.Start → List ℕ
+product s = product_of s.args.f.now s.args.g.now
 
-abbrev right : goal.Start → List ℕ
-right s = s.args.g.now
+abbrev rest : goal.Start → List ℕ
+rest s = product_of s.args.f.now (sum_of s.args.g.now ONE)
 
-abbrev changed : goal.Start → List Line
-changed s = changes [] Prod (left s) (right s) s.args.amount
+abbrev ruled : goal.Start → List Line
+ruled s = changes [] Prod s.args.f.now s.args.g.now s.args.amount
 
-small : (s : goal.Start) → IsSmall 42 (changed s)
-small s = IsSmall-changes [] Prod (left s) (right s) s.args.amount s.requires.2
+small : (s : goal.Start) → IsSmall 42 (ruled s)
+small s = IsSmall-changes [] Prod s.args.f.now s.args.g.now s.args.amount s.requires.2
 
 -- an amount as the code has it
 gained : (s : goal.Start) → to_z w64 (of_z w64 s.args.amount) ≡ s.args.amount
@@ -48,32 +42,11 @@ gained s = to_z-of_z s.ranges.amount
 lost : (s : goal.Start) → to_z w64 (of_z w64 (pos 0 -ℤ to_z w64 (of_z w64 s.args.amount))) ≡ neg_ℤ s.args.amount
 lost s = negated_is s.args.amount s.requires.2 _ (gained s)
 
--- the table as it is lent: it has no change
-abbrev table : goal.Start → Table
-table s = let a = s.args in record { lines = 0; order = a.order.now; terms = a.terms.now; weights = a.weights.now; counts = a.counts.now }
-
--- a table that has the first changes
-abbrev Has : goal.Start → ℕ → Table → Type 0
-Has s k = Folded (take k (changed s))
-
-none : (s : goal.Start) → Has s 0 (table s)
-none s = Folded-none s.requires.3
-
-abbrev product : goal.Start → List ℕ
-product s = product_of (left s) (right s)
-
-abbrev rest : goal.Start → List ℕ
-rest s = product_of (left s) (sum_of (right s) ONE)
-
--- f g, as it is answered
-told_product : (c : goal.After-product-n) → (let k = c.product-n in
-    (k.result ≡ length (product (goal.at.After-product-n c).Start)) × (k.result ≤ 64 → take k.result k.new.out ≡ product (goal.at.After-product-n c).Start))
+-- f g, exact
+told_product : (c : goal.After-product-n) → (let k = c.product-n in let p = product (goal.at.After-product-n c).Start in
+    (k.result ≡ length p) × (k.result ≤ 64 → take k.result k.new.out ≡ p))
 told_product c =
-    exact (left (goal.at.After-product-n c).Start ∷ right (goal.at.After-product-n c).Start ∷ []) (product (goal.at.After-product-n c).Start) _ _ _ (c.requires.0.0, (c.requires.1.0, tt)) (c.product-n.ensures.size, c.product-n.ensures.terms)
-
--- what is found against the other result is found
-past_product : (c : goal.Else-n-gt64) → (found : Objection) → (Finds (short (rest (goal.at.Else-n-gt64 c).Start) ∷ []) found → Finds (length_tests (conclusions [] Prod (left (goal.at.Else-n-gt64 c).Start) (right (goal.at.Else-n-gt64 c).Start) c.args.amount)) found)
-past_product c found = not_long _ (product (goal.at.Else-n-gt64 c).Start) (told_product (goal.at.Else-n-gt64 c).After-product-n).0 (short (rest (goal.at.Else-n-gt64 c).Start) ∷ []) found c.if-n-gt64.false
+    exact (c.args.f.now ∷ c.args.g.now ∷ []) (product (goal.at.After-product-n c).Start) _ _ _ (c.requires.0.0, (c.requires.1.0, tt)) (c.product-n.ensures.size, c.product-n.ensures.terms)
 
 -- f g, as it is lent
 abbrev lent : goal.Else-n-gt64 → List ℕ
@@ -82,106 +55,90 @@ lent c = let k = c.product-n in take k.result k.new.out
 product_is : (c : goal.Else-n-gt64) → lent c ≡ product (goal.at.Else-n-gt64 c).Start
 product_is c = (told_product (goal.at.Else-n-gt64 c).After-product-n).1 c.if-n-gt64.false
 
-rest_is : (c : goal.Else-n-gt64) → sum_of (lent c) (left (goal.at.Else-n-gt64 c).Start) ≡ rest (goal.at.Else-n-gt64 c).Start
-rest_is c = plus_one (left (goal.at.Else-n-gt64 c).Start) (right (goal.at.Else-n-gt64 c).Start) (lent c) (product_is c)
+-- f g + f, exact, which is f (g + 1)
+rest_is : (c : goal.Else-n-gt64) → sum_of (lent c) c.args.f.now ≡ rest (goal.at.Else-n-gt64 c).Start
+rest_is c = plus_one c.args.f.now c.args.g.now (lent c) (product_is c)
 
--- f g + f, as it is answered
-told_rest : (c : goal.After-sum-m) → (let l = sum_of (lent (goal.at.After-sum-m c).Else-n-gt64) (left (goal.at.After-sum-m c).Start) in let k = c.sum-m in
+told_rest : (c : goal.After-sum-m) → (let l = sum_of (lent (goal.at.After-sum-m c).Else-n-gt64) c.args.f.now in let k = c.sum-m in
     (k.result ≡ length l) × (k.result ≤ 64 → take k.result k.new.out ≡ l))
 told_rest c =
-    exact (lent (goal.at.After-sum-m c).Else-n-gt64 ∷ left (goal.at.After-sum-m c).Start ∷ []) (sum_of (lent (goal.at.After-sum-m c).Else-n-gt64) (left (goal.at.After-sum-m c).Start)) _ _ _
+    exact (lent (goal.at.After-sum-m c).Else-n-gt64 ∷ c.args.f.now ∷ []) (sum_of (lent (goal.at.After-sum-m c).Else-n-gt64) c.args.f.now) _ _ _
     (omega (arith, ap length (product_is (goal.at.After-sum-m c).Else-n-gt64), (told_product (goal.at.After-sum-m c).After-product-n).0, c.if-n-gt64.false), (c.requires.0.0, tt)) (c.sum-m.ensures.size, c.sum-m.ensures.terms)
 
 rest_size : (c : goal.After-sum-m) → c.sum-m.result ≡ length (rest (goal.at.After-sum-m c).Start)
 rest_size c = (told_rest c).0 ∙ ap length (rest_is (goal.at.After-sum-m c).Else-n-gt64)
 
-fits : (c : goal.Else-m-gt64) → Finds (length_tests (conclusions [] Prod (left (goal.at.Else-m-gt64 c).Start) (right (goal.at.Else-m-gt64 c).Start) c.args.amount)) Nothing
-fits c = past_product (goal.at.Else-m-gt64 c).Else-n-gt64 Nothing (not_long _ (rest (goal.at.Else-m-gt64 c).Start) (rest_size (goal.at.Else-m-gt64 c).After-sum-m) [] Nothing c.if-m-gt64.false (λ o. refl))
-
--- where one of them is 0 nothing changes
-nothing : (c : goal.Else-m-gt64) → ((length (product (goal.at.Else-m-gt64 c).Start) ≡ 0) ⊎ (length (rest (goal.at.Else-m-gt64 c).Start) ≡ 0) → HasPlan [] Prod (left (goal.at.Else-m-gt64 c).Start) (right (goal.at.Else-m-gt64 c).Start) c.args.amount Nothing (table (goal.at.Else-m-gt64 c).Start))
-nothing c = made_none (left (goal.at.Else-m-gt64 c).Start) (right (goal.at.Else-m-gt64 c).Start) c.args.amount (none (goal.at.Else-m-gt64 c).Start) c.requires.0.1 (fits c)
-
-one : (c : goal.After-fold_in-one) → (let r = c.fold_in-one in Has (goal.at.After-fold_in-one c).Start 1
-    (record { lines = r.result; order = r.new.order; terms = r.new.terms; weights = r.new.weights; counts = r.new.counts }))
-unfolding negated
-one c =
-    fold_given (none (goal.at.After-fold_in-one c).Start) (omega arith) refl (lost (goal.at.After-fold_in-one c).Start) (small (goal.at.After-fold_in-one c).Start).0 c.fold_in-one.ensures
-
-two : (c : goal.After-fold_in-two) → (let r = c.fold_in-two in Has (goal.at.After-fold_in-two c).Start 2
-    (record { lines = r.result; order = r.new.order; terms = r.new.terms; weights = r.new.weights; counts = r.new.counts }))
-unfolding negated
-two c =
-    fold_given (one (goal.at.After-fold_in-two c).After-fold_in-one) (omega arith) (product_is (goal.at.After-fold_in-two c).Else-n-gt64) (gained (goal.at.After-fold_in-two c).Start) (small (goal.at.After-fold_in-two c).Start).1.0 c.fold_in-two.ensures
-
 third : (c : goal.Else-m-gt64) → (let k = c.sum-m in take k.result k.new.out ≡ rest (goal.at.Else-m-gt64 c).Start)
 third c = (told_rest (goal.at.Else-m-gt64 c).After-sum-m).1 c.if-m-gt64.false ∙ rest_is (goal.at.Else-m-gt64 c).Else-n-gt64
 
-three : (c : goal.After-fold_in) → (let r = c.fold_in in Has (goal.at.After-fold_in c).Start 3
-    (record { lines = r.result; order = r.new.order; terms = r.new.terms; weights = r.new.weights; counts = r.new.counts }))
+-- both are short: what is there is accepted
+fits : (c : goal.Else-m-gt64) → (M : List Line) → (let s = (goal.at.Else-m-gt64 c).Start in M ≡ add_all (ruled s) []
+    → accepted M ≡ passing (short (product s) ∷ short (rest s) ∷ []) (accepted (add_all (ruled s) [])))
+fits c M e =
+    let s = (goal.at.Else-m-gt64 c).Start in
+    let o = accepted (add_all (ruled s) []) in
+    not_long _ (product s) (told_product (goal.at.Else-m-gt64 c).After-product-n).0 (short (rest s) ∷ []) o c.if-n-gt64.false
+    (not_long _ (rest s) (rest_size (goal.at.Else-m-gt64 c).After-sum-m) [] o c.if-m-gt64.false (ap accepted e))
+
+-- where one of them is 0 nothing changes
+none : (c : goal.Else-m-gt64) → (let s = (goal.at.Else-m-gt64 c).Start in (length (product s) ≡ 0) ⊎ (length (rest s) ≡ 0) → c.args.changes.now ≡ add_all (ruled s) [])
+none c h = c.requires.3 ∙ sym (made_none c.args.f.now c.args.g.now c.args.amount c.requires.0.1 h)
+
+-- the first changes, folded
+one : (c : goal.After-add) → Folded (take 1 (ruled (goal.at.After-add c).Start)) c.add.new.self
+unfolding negated
+one c = let s = (goal.at.After-add c).Start in fold_given (Folded-none c.requires.3) (omega arith) refl (lost s) (small s).0 c.add.ensures
+
+two : (c : goal.After-add-2) → Folded (take 2 (ruled (goal.at.After-add-2 c).Start)) c.add-2.new.self
+unfolding negated
+two c =
+    let s = (goal.at.After-add-2 c).Start in
+    fold_given (one (goal.at.After-add-2 c).After-add) (omega arith) (product_is (goal.at.After-add-2 c).Else-n-gt64) (gained s) (small s).1.0 c.add-2.ensures
+
+three : (c : goal.After-add-3) → Folded (ruled (goal.at.After-add-3 c).Start) c.add-3.new.self
 unfolding negated
 three c =
-    fold_given (two (goal.at.After-fold_in c).After-fold_in-two) (omega arith) (third (goal.at.After-fold_in c).Else-m-gt64) (gained (goal.at.After-fold_in c).Start) (small (goal.at.After-fold_in c).Start).1.1.0 c.fold_in.ensures
+    let s = (goal.at.After-add-3 c).Start in
+    fold_given (two (goal.at.After-add-3 c).After-add-2) (omega arith) (third (goal.at.After-add-3 c).Else-m-gt64) (gained s) (small s).1.1.0 c.add-3.ensures
 
 pub returns-then-n-gt64 : goal.returns-then-n-gt64
 returns-then-n-gt64 c =
-    rw c.too_long.ensures (too_long_lem c.product-n.result (product (goal.at.returns-then-n-gt64 c).Start) (told_product (goal.at.returns-then-n-gt64 c).After-product-n).0 (short (rest (goal.at.returns-then-n-gt64 c).Start) ∷ []) c.if-n-gt64.true, (none (goal.at.returns-then-n-gt64 c).Start).holds)
-
-pub slice_bounds-product-end : goal.slice_bounds-product-end
-slice_bounds-product-end c = room _ _ _ (told_product (goal.at.slice_bounds-product-end c).After-product-n) c.if-n-gt64.false
-
-pub slice_bounds-p-end : goal.slice_bounds-p-end
-slice_bounds-p-end c = sym (length-take-le _ _ (slice_bounds-product-end (goal.at.slice_bounds-p-end c).Else-n-gt64))
+    let s = (goal.at.returns-then-n-gt64 c).Start in
+    too_long_lem c.product-n.result (product s) (told_product (goal.at.returns-then-n-gt64 c).After-product-n).0 (short (rest s) ∷ []) (accepted (add_all (ruled s) [])) c.if-n-gt64.true
 
 pub returns-then-m-gt64 : goal.returns-then-m-gt64
 returns-then-m-gt64 c =
-    let e = too_long_lem c.sum-m.result (rest (goal.at.returns-then-m-gt64 c).Start) (rest_size (goal.at.returns-then-m-gt64 c).After-sum-m) [] c.if-m-gt64.true in
-    rw c.too_long-then-m-gt64.ensures (past_product (goal.at.returns-then-m-gt64 c).Else-n-gt64 (Found (TooManyTerms c.sum-m.result)) e, (none (goal.at.returns-then-m-gt64 c).Start).holds)
+    let s = (goal.at.returns-then-m-gt64 c).Start in
+    let o = accepted (add_all (ruled s) []) in
+    not_long _ (product s) (told_product (goal.at.returns-then-m-gt64 c).After-product-n).0 (short (rest s) ∷ []) o c.if-n-gt64.false
+    (too_long_lem c.sum-m.result (rest s) (rest_size (goal.at.returns-then-m-gt64 c).After-sum-m) [] o c.if-m-gt64.true)
 
 pub returns-then-n : goal.returns-then-n
 returns-then-n c =
-    rw c.ready.ensures (nothing (goal.at.returns-then-n c).Else-m-gt64 (inl (sym (told_product (goal.at.returns-then-n c).After-product-n).0 ∙ c.if-n.true)))
+    let d = (goal.at.returns-then-n c).Else-m-gt64 in fits d _ (none d (inl (sym (told_product (goal.at.returns-then-n c).After-product-n).0 ∙ c.if-n.true)))
 
 pub returns-then-m : goal.returns-then-m
 returns-then-m c =
-    rw c.ready-then-m.ensures (nothing (goal.at.returns-then-m c).Else-m-gt64 (inr (sym (rest_size (goal.at.returns-then-m c).After-sum-m) ∙ c.if-m.true)))
+    let d = (goal.at.returns-then-m c).Else-m-gt64 in fits d _ (none d (inr (sym (rest_size (goal.at.returns-then-m c).After-sum-m) ∙ c.if-m.true)))
 
-pub overflow_sub-amount : goal.overflow_sub-amount
-overflow_sub-amount c = rw (gained (goal.at.overflow_sub-amount c).Start) (negated_fits c.args.amount c.requires.2)
-
-pub fold_in-one-requires : goal.fold_in-one-requires
+pub add-requires : goal.add-requires
 unfolding negated
-fold_in-one-requires c =
-    fold_asked (none (goal.at.fold_in-one-requires c).Start) (omega arith) refl (lost (goal.at.fold_in-one-requires c).Start) (small (goal.at.fold_in-one-requires c).Start).0 c.requires.0.0
+add-requires c =
+    let s = (goal.at.add-requires c).Start in (omega arith, fold_asked (Folded-none c.requires.3) (omega arith) refl (lost s) (small s).0 c.requires.0.0)
 
-pub fold_in-two-requires : goal.fold_in-two-requires
+pub add-requires-2 : goal.add-requires-2
 unfolding negated
-fold_in-two-requires c =
-    fold_asked (one (goal.at.fold_in-two-requires c).After-fold_in-one) (omega arith) (product_is (goal.at.fold_in-two-requires c).Else-n-gt64) (gained (goal.at.fold_in-two-requires c).Start) (small (goal.at.fold_in-two-requires c).Start).1.0 (omega (arith, (told_product (goal.at.fold_in-two-requires c).After-product-n).0, c.if-n-gt64.false))
+add-requires-2 c =
+    let s = (goal.at.add-requires-2 c).Start in
+    let e = (told_product (goal.at.add-requires-2 c).After-product-n).0 in
+    (omega arith, fold_asked (one (goal.at.add-requires-2 c).After-add) (omega arith) (product_is (goal.at.add-requires-2 c).Else-n-gt64) (gained s) (small s).1.0 (omega (arith, e)))
 
-pub slice_bounds-rest-end : goal.slice_bounds-rest-end
-slice_bounds-rest-end c = room _ _ _ (told_rest (goal.at.slice_bounds-rest-end c).After-sum-m) c.if-m-gt64.false
-
-pub slice_bounds-q-end : goal.slice_bounds-q-end
-slice_bounds-q-end c = sym (length-take-le _ _ (slice_bounds-rest-end (goal.at.slice_bounds-q-end c).After-slice_known-9-1))
-
-pub fold_in-requires : goal.fold_in-requires
+pub add-requires-3 : goal.add-requires-3
 unfolding negated
-fold_in-requires c =
-    fold_asked (two (goal.at.fold_in-requires c).After-fold_in-two) (omega arith) (third (goal.at.fold_in-requires c).Else-m-gt64) (gained (goal.at.fold_in-requires c).Start) (small (goal.at.fold_in-requires c).Start).1.1.0 (omega (arith, rest_size (goal.at.fold_in-requires c).After-sum-m, c.if-m-gt64.false))
-
-pub shape_of-order : goal.shape_of-order
-shape_of-order c = (three (goal.at.shape_of-order c).After-fold_in).holds.1.order_length ∙ sym c.requires.3.order_length
-
-pub shape_of-terms : goal.shape_of-terms
-shape_of-terms c = (three (goal.at.shape_of-terms c).After-fold_in).holds.1.terms_length ∙ sym c.requires.3.terms_length
-
-pub shape_of-weights : goal.shape_of-weights
-shape_of-weights c = (three (goal.at.shape_of-weights c).After-fold_in).holds.1.weights_length ∙ sym c.requires.3.weights_length
-
-pub shape_of-counts : goal.shape_of-counts
-shape_of-counts c = (three (goal.at.shape_of-counts c).After-fold_in).holds.1.counts_length ∙ sym c.requires.3.counts_length
+add-requires-3 c =
+    let s = (goal.at.add-requires-3 c).Start in
+    let e = rest_size (goal.at.add-requires-3 c).After-sum-m in
+    (omega arith, fold_asked (two (goal.at.add-requires-3 c).After-add-2) (omega arith) (third (goal.at.add-requires-3 c).Else-m-gt64) (gained s) (small s).1.1.0 (omega (arith, e)))
 
 pub returns : goal.returns
-unfolding negated
-returns c = rw c.ready-2.ensures (fits (goal.at.returns c).Else-m-gt64, (three (goal.at.returns c).After-fold_in).holds)
+returns c = fits (goal.at.returns c).Else-m-gt64 _ (three (goal.at.returns c).After-add-3).holds

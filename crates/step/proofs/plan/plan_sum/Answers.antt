@@ -1,5 +1,5 @@
--- `plan_sum` meets its contract: a result of more than 64 terms is told, the product first, and otherwise the table has the four changes of the rule, one after another.
-use mathlib.Core.Path.{◌≡◌, refl}
+-- `plan_sum` meets its contract: a result of more than 64 terms is told, the product first, and otherwise the changes of the rule are folded one after another.
+use mathlib.Core.Path.{◌≡◌, refl, ap}
 use mathlib.Core.List.{List, [], ◌∷◌}
 use Prim.Native.Nat.{ℕ, ◌≤◌}
 use native.Mathlib.Omega.{arith}
@@ -8,35 +8,30 @@ use lib.ListN.{length, take}
 use mir.Syntax.{w64}
 use mir.Val.{to_z, of_z}
 use mir.Facts.{to_z-of_z}
-use Rattle.refusal.specs.declared.Objection.{Objection}
-use Rattle.refusal.specs.declared.Objection.TheVariants.{Nothing, Found}
-use Rattle.refusal.specs.declared.Reason.TheVariants.{TooManyTerms}
+use Rattle.refusal.specs.Outcome.{accepted}
 use Rattle.polynomial.specs.Polynomial.{sum_of, product_of}
 use Rattle.polynomial.specs.PolynomialLaws.{exact}
-use Rattle.configuration.specs.Configuration.{Line, negated}
+use Rattle.configuration.specs.Configuration.{Line, add_all, negated}
 use Rattle.configuration.specs.Limits.{short}
 use Rattle.replacement.specs.Passes.{IsSmall}
-use Rattle.calculus.specs.Calculus.{conclusions, changes, length_tests}
+use Rattle.calculus.specs.Calculus.{changes}
 use Rattle.calculus.specs.declared.Rule.TheVariants.{Sum}
-use Rattle.table.specs.Rows.{Table}
 use Rattle.step.proofs.Amounts.{negated_is, doubled_is, IsSmall-changes}
-use Rattle.step.specs.Stepping.{Finds}
 use Rattle.step.proofs.Plans.{too_long_lem, not_long, Folded, Folded-none, fold_asked, fold_given}
 use Rattle.step.proofs.plan.plan_sum.Goals as goal
-use Rattle.step.proofs.plan.plan_sum.Goals.{After-fold_in, After-fold_in-one, After-fold_in-three, After-fold_in-two, After-product-product_length, After-slice_known-12-1, After-slice_known-9-1, After-sum-sum_length, Else-sum_length-gt64, Start}
+use Rattle.step.proofs.plan.plan_sum.Goals.{After-add, After-add-2, After-add-3, After-add-4, After-product-product_length, After-sum-sum_length, Else-sum_length-gt64, Start}
 
--- ---- the operands, and the changes of the rule
-abbrev left : goal.Start → List ℕ
-left s = s.args.f.now
+abbrev product : goal.Start → List ℕ
+product s = product_of s.args.f.now s.args.g.now
 
-abbrev right : goal.Start → List ℕ
-right s = s.args.g.now
+abbrev sum : goal.Start → List ℕ
+sum s = sum_of s.args.f.now s.args.g.now
 
-abbrev changed : goal.Start → List Line
-changed s = changes [] Sum (left s) (right s) s.args.amount
+abbrev ruled : goal.Start → List Line
+ruled s = changes [] Sum s.args.f.now s.args.g.now s.args.amount
 
-small : (s : goal.Start) → IsSmall 42 (changed s)
-small s = IsSmall-changes [] Sum (left s) (right s) s.args.amount s.requires.2
+small : (s : goal.Start) → IsSmall 42 (ruled s)
+small s = IsSmall-changes [] Sum s.args.f.now s.args.g.now s.args.amount s.requires.2
 
 -- an amount as the code has it
 gained : (s : goal.Start) → to_z w64 (of_z w64 s.args.amount) ≡ s.args.amount
@@ -48,100 +43,84 @@ lost s = negated_is s.args.amount s.requires.2 _ (gained s)
 doubled : (s : goal.Start) → to_z w64 (of_z w64 (to_z w64 (of_z w64 s.args.amount) +ℤ to_z w64 (of_z w64 s.args.amount))) ≡ s.args.amount +ℤ s.args.amount
 doubled s = doubled_is s.args.amount s.requires.2 _ (gained s)
 
--- the table as it is lent: it has no change
-abbrev table : goal.Start → Table
-table s = let a = s.args in record { lines = 0; order = a.order.now; terms = a.terms.now; weights = a.weights.now; counts = a.counts.now }
-
--- a table that has the first changes
-abbrev Has : goal.Start → ℕ → Table → Type 0
-Has s k = Folded (take k (changed s))
-
-none : (s : goal.Start) → Has s 0 (table s)
-none s = Folded-none s.requires.3
-
--- ---- f g and f + g, exact
-told_product : (c : goal.After-product-product_length) → (let k = c.product-product_length in
-    (k.result ≡ length (product_of (left (goal.at.After-product-product_length c).Start) (right (goal.at.After-product-product_length c).Start))) × (k.result ≤ 64 → take k.result k.new.out ≡ product_of (left (goal.at.After-product-product_length c).Start) (right (goal.at.After-product-product_length c).Start)))
+-- f g and f + g, exact
+told_product : (c : goal.After-product-product_length) → (let k = c.product-product_length in let p = product (goal.at.After-product-product_length c).Start in
+    (k.result ≡ length p) × (k.result ≤ 64 → take k.result k.new.out ≡ p))
 told_product c =
-    exact (left (goal.at.After-product-product_length c).Start ∷ right (goal.at.After-product-product_length c).Start ∷ []) (product_of (left (goal.at.After-product-product_length c).Start) (right (goal.at.After-product-product_length c).Start)) _ _ _ (c.requires.0.0, (c.requires.1.0, tt)) (c.product-product_length.ensures.size, c.product-product_length.ensures.terms)
+    exact (c.args.f.now ∷ c.args.g.now ∷ []) (product (goal.at.After-product-product_length c).Start) _ _ _ (c.requires.0.0, (c.requires.1.0, tt)) (c.product-product_length.ensures.size, c.product-product_length.ensures.terms)
 
-told_sum : (c : goal.After-sum-sum_length) → (let k = c.sum-sum_length in
-    (k.result ≡ length (sum_of (left (goal.at.After-sum-sum_length c).Start) (right (goal.at.After-sum-sum_length c).Start))) × (k.result ≤ 64 → take k.result k.new.out ≡ sum_of (left (goal.at.After-sum-sum_length c).Start) (right (goal.at.After-sum-sum_length c).Start)))
+told_sum : (c : goal.After-sum-sum_length) → (let k = c.sum-sum_length in let s = sum (goal.at.After-sum-sum_length c).Start in
+    (k.result ≡ length s) × (k.result ≤ 64 → take k.result k.new.out ≡ s))
 told_sum c =
-    exact (left (goal.at.After-sum-sum_length c).Start ∷ right (goal.at.After-sum-sum_length c).Start ∷ []) (sum_of (left (goal.at.After-sum-sum_length c).Start) (right (goal.at.After-sum-sum_length c).Start)) _ _ _ (c.requires.0.0, (c.requires.1.0, tt)) (c.sum-sum_length.ensures.size, c.sum-sum_length.ensures.terms)
+    exact (c.args.f.now ∷ c.args.g.now ∷ []) (sum (goal.at.After-sum-sum_length c).Start) _ _ _ (c.requires.0.0, (c.requires.1.0, tt)) (c.sum-sum_length.ensures.size, c.sum-sum_length.ensures.terms)
 
--- the first result, and where it is short enough the second
-abbrev ruled : goal.Start → List Line
-ruled s = conclusions [] Sum (left s) (right s) s.args.amount
+product_is : (c : goal.Else-sum_length-gt64) → (let k = c.product-product_length in take k.result k.new.out ≡ product (goal.at.Else-sum_length-gt64 c).Start)
+product_is c = (told_product (goal.at.Else-sum_length-gt64 c).After-product-product_length).1 c.if-product_length-gt64.false
 
-past_product : (c : goal.After-sum-sum_length) → (found : Objection) → (Finds (short (sum_of (left (goal.at.After-sum-sum_length c).Start) (right (goal.at.After-sum-sum_length c).Start)) ∷ []) found → Finds (length_tests (ruled (goal.at.After-sum-sum_length c).Start)) found)
-past_product c found =
-    not_long _ (product_of (left (goal.at.After-sum-sum_length c).Start) (right (goal.at.After-sum-sum_length c).Start)) (told_product (goal.at.After-sum-sum_length c).After-product-product_length).0 (short (sum_of (left (goal.at.After-sum-sum_length c).Start) (right (goal.at.After-sum-sum_length c).Start)) ∷ []) found (omega arith)
-
-fits : (c : goal.Else-sum_length-gt64) → Finds (length_tests (ruled (goal.at.Else-sum_length-gt64 c).Start)) Nothing
-fits c =
-    past_product (goal.at.Else-sum_length-gt64 c).After-sum-sum_length Nothing (not_long _ (sum_of (left (goal.at.Else-sum_length-gt64 c).Start) (right (goal.at.Else-sum_length-gt64 c).Start)) (told_sum (goal.at.Else-sum_length-gt64 c).After-sum-sum_length).0 [] Nothing c.if-sum_length-gt64.false (λ o. refl))
-
-product_is : (c : goal.Else-sum_length-gt64) → (let k = c.product-product_length in take k.result k.new.out ≡ product_of (left (goal.at.Else-sum_length-gt64 c).Start) (right (goal.at.Else-sum_length-gt64 c).Start))
-product_is c = (told_product (goal.at.Else-sum_length-gt64 c).After-product-product_length).1 (omega arith)
-
-sum_is : (c : goal.Else-sum_length-gt64) → (let k = c.sum-sum_length in take k.result k.new.out ≡ sum_of (left (goal.at.Else-sum_length-gt64 c).Start) (right (goal.at.Else-sum_length-gt64 c).Start))
+sum_is : (c : goal.Else-sum_length-gt64) → (let k = c.sum-sum_length in take k.result k.new.out ≡ sum (goal.at.Else-sum_length-gt64 c).Start)
 sum_is c = (told_sum (goal.at.Else-sum_length-gt64 c).After-sum-sum_length).1 c.if-sum_length-gt64.false
 
-one : (c : goal.After-fold_in-one) → (let r = c.fold_in-one in Has (goal.at.After-fold_in-one c).Start 1
-    (record { lines = r.result; order = r.new.order; terms = r.new.terms; weights = r.new.weights; counts = r.new.counts }))
+-- the first changes, folded
+one : (c : goal.After-add) → Folded (take 1 (ruled (goal.at.After-add c).Start)) c.add.new.self
 unfolding negated
-one c =
-    fold_given (none (goal.at.After-fold_in-one c).Start) (omega arith) refl (lost (goal.at.After-fold_in-one c).Start) (small (goal.at.After-fold_in-one c).Start).0 c.fold_in-one.ensures
+one c = let s = (goal.at.After-add c).Start in fold_given (Folded-none c.requires.3) (omega arith) refl (lost s) (small s).0 c.add.ensures
 
-two : (c : goal.After-fold_in-two) → (let r = c.fold_in-two in Has (goal.at.After-fold_in-two c).Start 2
-    (record { lines = r.result; order = r.new.order; terms = r.new.terms; weights = r.new.weights; counts = r.new.counts }))
+two : (c : goal.After-add-2) → Folded (take 2 (ruled (goal.at.After-add-2 c).Start)) c.add-2.new.self
 unfolding negated
-two c =
-    fold_given (one (goal.at.After-fold_in-two c).After-fold_in-one) (omega arith) refl (lost (goal.at.After-fold_in-two c).Start) (small (goal.at.After-fold_in-two c).Start).1.0 c.fold_in-two.ensures
+two c = let s = (goal.at.After-add-2 c).Start in fold_given (one (goal.at.After-add-2 c).After-add) (omega arith) refl (lost s) (small s).1.0 c.add-2.ensures
 
-three : (c : goal.After-fold_in-three) → (let r = c.fold_in-three in Has (goal.at.After-fold_in-three c).Start 3
-    (record { lines = r.result; order = r.new.order; terms = r.new.terms; weights = r.new.weights; counts = r.new.counts }))
+three : (c : goal.After-add-3) → Folded (take 3 (ruled (goal.at.After-add-3 c).Start)) c.add-3.new.self
 unfolding negated
 three c =
-    fold_given (two (goal.at.After-fold_in-three c).After-fold_in-two) (omega arith) (product_is (goal.at.After-fold_in-three c).Else-sum_length-gt64) (doubled (goal.at.After-fold_in-three c).Start) (small (goal.at.After-fold_in-three c).Start).1.1.0 c.fold_in-three.ensures
+    let s = (goal.at.After-add-3 c).Start in
+    fold_given (two (goal.at.After-add-3 c).After-add-2) (omega arith) (product_is (goal.at.After-add-3 c).Else-sum_length-gt64) (doubled s) (small s).1.1.0 c.add-3.ensures
 
-four : (c : goal.After-fold_in) → (let r = c.fold_in in Has (goal.at.After-fold_in c).Start 4
-    (record { lines = r.result; order = r.new.order; terms = r.new.terms; weights = r.new.weights; counts = r.new.counts }))
+four : (c : goal.After-add-4) → Folded (ruled (goal.at.After-add-4 c).Start) c.add-4.new.self
 unfolding negated
 four c =
-    fold_given (three (goal.at.After-fold_in c).After-fold_in-three) (omega arith) (sum_is (goal.at.After-fold_in c).Else-sum_length-gt64) (gained (goal.at.After-fold_in c).Start) (small (goal.at.After-fold_in c).Start).1.1.1.0 c.fold_in.ensures
+    let s = (goal.at.After-add-4 c).Start in
+    fold_given (three (goal.at.After-add-4 c).After-add-3) (omega arith) (sum_is (goal.at.After-add-4 c).Else-sum_length-gt64) (gained s) (small s).1.1.1.0 c.add-4.ensures
 
 pub returns-then-product_length-gt64 : goal.returns-then-product_length-gt64
 returns-then-product_length-gt64 c =
-    rw c.too_long.ensures (too_long_lem c.product-product_length.result (product_of (left (goal.at.returns-then-product_length-gt64 c).Start) (right (goal.at.returns-then-product_length-gt64 c).Start)) (told_product (goal.at.returns-then-product_length-gt64 c).After-product-product_length).0 (short (sum_of (left (goal.at.returns-then-product_length-gt64 c).Start) (right (goal.at.returns-then-product_length-gt64 c).Start)) ∷ []) c.if-product_length-gt64.true, (none (goal.at.returns-then-product_length-gt64 c).Start).holds)
+    let s = (goal.at.returns-then-product_length-gt64 c).Start in
+    too_long_lem c.product-product_length.result (product s) (told_product (goal.at.returns-then-product_length-gt64 c).After-product-product_length).0 (short (sum s) ∷ [])
+    (accepted (add_all (ruled s) [])) c.if-product_length-gt64.true
 
 pub returns-then-sum_length-gt64 : goal.returns-then-sum_length-gt64
 returns-then-sum_length-gt64 c =
-    let e = too_long_lem c.sum-sum_length.result (sum_of (left (goal.at.returns-then-sum_length-gt64 c).Start) (right (goal.at.returns-then-sum_length-gt64 c).Start)) (told_sum (goal.at.returns-then-sum_length-gt64 c).After-sum-sum_length).0 [] c.if-sum_length-gt64.true in
-    rw c.too_long-then-sum_length-gt64.ensures (past_product (goal.at.returns-then-sum_length-gt64 c).After-sum-sum_length (Found (TooManyTerms c.sum-sum_length.result)) e, (none (goal.at.returns-then-sum_length-gt64 c).Start).holds)
+    let s = (goal.at.returns-then-sum_length-gt64 c).Start in
+    let o = accepted (add_all (ruled s) []) in
+    not_long _ (product s) (told_product (goal.at.returns-then-sum_length-gt64 c).After-product-product_length).0 (short (sum s) ∷ []) o c.if-product_length-gt64.false
+    (too_long_lem c.sum-sum_length.result (sum s) (told_sum (goal.at.returns-then-sum_length-gt64 c).After-sum-sum_length).0 [] o c.if-sum_length-gt64.true)
 
-pub fold_in-one-requires : goal.fold_in-one-requires
+pub add-requires : goal.add-requires
 unfolding negated
-fold_in-one-requires c =
-    fold_asked (none (goal.at.fold_in-one-requires c).Start) (omega arith) refl (lost (goal.at.fold_in-one-requires c).Start) (small (goal.at.fold_in-one-requires c).Start).0 c.requires.0.0
+add-requires c =
+    let s = (goal.at.add-requires c).Start in (omega arith, fold_asked (Folded-none c.requires.3) (omega arith) refl (lost s) (small s).0 c.requires.0.0)
 
-pub fold_in-two-requires : goal.fold_in-two-requires
+pub add-requires-2 : goal.add-requires-2
 unfolding negated
-fold_in-two-requires c =
-    fold_asked (one (goal.at.fold_in-two-requires c).After-fold_in-one) (omega arith) refl (lost (goal.at.fold_in-two-requires c).Start) (small (goal.at.fold_in-two-requires c).Start).1.0 c.requires.1.0
+add-requires-2 c =
+    let s = (goal.at.add-requires-2 c).Start in (omega arith, fold_asked (one (goal.at.add-requires-2 c).After-add) (omega arith) refl (lost s) (small s).1.0 c.requires.1.0)
 
-pub fold_in-three-requires : goal.fold_in-three-requires
+pub add-requires-3 : goal.add-requires-3
 unfolding negated
-fold_in-three-requires c =
-    fold_asked (two (goal.at.fold_in-three-requires c).After-fold_in-two) (omega arith) (product_is (goal.at.fold_in-three-requires c).Else-sum_length-gt64) (doubled (goal.at.fold_in-three-requires c).Start) (small (goal.at.fold_in-three-requires c).Start).1.1.0
-    (omega (arith, (told_product (goal.at.fold_in-three-requires c).After-product-product_length).0))
+add-requires-3 c =
+    let s = (goal.at.add-requires-3 c).Start in
+    let e = (told_product (goal.at.add-requires-3 c).After-product-product_length).0 in
+    (omega arith, fold_asked (two (goal.at.add-requires-3 c).After-add-2) (omega arith) (product_is (goal.at.add-requires-3 c).Else-sum_length-gt64) (doubled s) (small s).1.1.0 (omega (arith, e)))
 
-pub fold_in-requires : goal.fold_in-requires
+pub add-requires-4 : goal.add-requires-4
 unfolding negated
-fold_in-requires c =
-    fold_asked (three (goal.at.fold_in-requires c).After-fold_in-three) (omega arith) (sum_is (goal.at.fold_in-requires c).Else-sum_length-gt64) (gained (goal.at.fold_in-requires c).Start) (small (goal.at.fold_in-requires c).Start).1.1.1.0 (omega (arith, (told_sum (goal.at.fold_in-requires c).After-sum-sum_length).0, c.if-sum_length-gt64.false))
+add-requires-4 c =
+    let s = (goal.at.add-requires-4 c).Start in
+    let e = (told_sum (goal.at.add-requires-4 c).After-sum-sum_length).0 in
+    (omega arith, fold_asked (three (goal.at.add-requires-4 c).After-add-3) (omega arith) (sum_is (goal.at.add-requires-4 c).Else-sum_length-gt64) (gained s) (small s).1.1.1.0 (omega (arith, e)))
 
 pub returns : goal.returns
-unfolding negated
-returns c = rw c.ready.ensures (fits (goal.at.returns c).Else-sum_length-gt64, (four (goal.at.returns c).After-fold_in).holds)
+returns c =
+    let s = (goal.at.returns c).Start in
+    let o = accepted (add_all (ruled s) []) in
+    not_long _ (product s) (told_product (goal.at.returns c).After-product-product_length).0 (short (sum s) ∷ []) o c.if-product_length-gt64.false
+    (not_long _ (sum s) (told_sum (goal.at.returns c).After-sum-sum_length).0 [] o c.if-sum_length-gt64.false (ap accepted (four (goal.at.returns c).After-add-4).holds))
