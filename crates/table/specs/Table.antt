@@ -1,8 +1,8 @@
 -- A table as the list of its lines.
-use Rattle.std.specs.Prelude.{List, [], ◌∷◌, ℕ, ◌/◌, ◌^◌, ℤ, pos, get_or}
+use Rattle.std.specs.Prelude.{◌≡◌, Bool, List, [], ◌∷◌, ℕ, ◌/◌, ◌<◌, ◌^◌, ℤ, pos, get_or}
 use Rattle.term.specs.Term.{degree_of}
-use Rattle.configuration.specs.Configuration.{Line, line, polynomial_of}
-use Rattle.table.specs.Rows.{first_key}
+use Rattle.configuration.specs.Configuration.{Line, line, polynomial_of, place_of, is_held}
+use Rattle.table.specs.Rows.{Table, first_key, Fits}
 
 abbrev pub no_line : Line
 no_line = line [] (pos 0)
@@ -25,3 +25,13 @@ first_degree L = first_key (terms_at L 0) / 2 ^ 32
 abbrev pub leading_degree : List ℕ → ℕ
 leading_degree [] = 0
 leading_degree (t ∷ f) = degree_of t
+
+-- what holds of a table's areas: they fit, and the terms have 32 bits
+pub record IsKept (c : ℕ) (t : Table) : Type 0 where
+  pub fits : Fits c t
+  pub small : (j : ℕ) → get_or t.terms j 0 < 2 ^ 32
+
+-- where a polynomial stands or would stand among lines, and whether it is held
+pub record Located (L : List Line) (f : List ℕ) (at : ℕ) (held : Bool) : Type 0 where
+  pub place : at ≡ place_of f L
+  pub is : held ≡ is_held f L

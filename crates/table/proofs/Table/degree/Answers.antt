@@ -6,5 +6,5 @@ use Rattle.table.proofs.Table.degree.Goals as goal
 
 pub returns : goal.returns
 returns g c =
-    let q = c.self.invariant in
+    let q = c.self.invariant.fits in
     ap (λ (k : ℕ). k / 2 ^ 32) (c.key_at.ensures ∙ key_is q c.self.view_is 0 (omega (arith, many q c.self.view_is, c.if-self-eq0.false)))
