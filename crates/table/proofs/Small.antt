@@ -1,10 +1,7 @@
 -- Each number of a list is below a bound, also where part of it is written.
 use mathlib.Core.List.{List, [], ◌∷◌, ◌++◌}
-use mathlib.Core.Path.{◌≡◌}
-use Prim.Native.Nat.{ℕ, zero, suc, ◌+◌, ◌*◌, ◌≤◌, ◌<◌}
-use native.Mathlib.Omega.{arith}
+use Prim.Native.Nat.{ℕ, zero, suc, ◌+◌, ◌<◌}
 use lib.ListN.{get_or, take, drop, replicate}
-use prog.Memory.{up}
 use lib.Seq.{get_or-drop}
 
 module _ (b : ℕ) (p : 0 < b) where
@@ -32,17 +29,3 @@ module _ (b : ℕ) (p : 0 < b) where
   nought_below zero j = p
   nought_below (suc n) zero = p
   nought_below (suc n) (suc j) = nought_below n j
-
--- a table takes less room than a machine has addresses
-up-four : (e : ℕ) → up 4 e < e + 4
-up-four e = omega arith
-
-up-eight : (e : ℕ) → up 8 e < e + 8
-up-eight e = omega arith
-
-pub size_fits : (n m : ℕ) → n ≤ 128 → m ≡ 64 * n → up 8 (up 4 (up 8 (up 4 (8 + n * 8) + m * 4) + n * 8) + n * 4) < 9223372036854775808
-size_fits n m h e =
-    let a : ℕ = 8 + n * 8 in
-    let b : ℕ = up 4 a + m * 4 in
-    let d : ℕ = up 8 b + n * 8 in
-    omega (arith, up-four a, up-eight b, up-four d, up-eight (up 4 d + n * 4))

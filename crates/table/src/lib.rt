@@ -14,12 +14,18 @@ ghost use Rattle.table.specs.Rows.{table_at, lines_of, first_key};
 ghost use Rattle.table.specs.Table.{IsKept, terms_at, weight_at, first_degree, Located};
 
 use configuration::weight::is_negative;
-use lines::Known;
 use order::{ahead, insert_entry, key_at, remove_entry, row_at};
 use polynomial::Ordering;
 use polynomial::area::write;
 use polynomial::order::{compare, least};
 use std::marker::Model;
+
+// Where a polynomial stands, or would stand, and its weight: 0 if it is not held.
+#[derive(Clone, Copy)]
+pub struct Known {
+    pub at: usize,
+    pub weight: i64,
+}
 
 /// A configuration as the list of its lines: at most `ROWS`, with 64 places of `TERMS` for the terms of each.
 #[derive(Drop)]
@@ -45,6 +51,8 @@ impl<const ROWS: usize, const TERMS: usize> Model for Table<ROWS, TERMS> {
     ghost invariant = { λ t. IsKept ROWS (table_at t.lines t.order t.terms t.weights t.counts) };
 }
 
+// A method that calls another on the table reads a field first, if only to let it be: with the invariant the size of the table is
+// known, as each call asks.
 impl<const ROWS: usize, const TERMS: usize> Table<ROWS, TERMS> {
     // No lines.
     pub fn new() -> Self

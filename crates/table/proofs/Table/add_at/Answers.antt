@@ -16,7 +16,6 @@ use Rattle.configuration.proofs.Weights.{read_back, is_zero_lem, not_zero}
 use Rattle.table.specs.Table.{terms_at}
 use Rattle.table.proofs.Lined.{lines_ordered}
 use Rattle.table.proofs.Located.{Located-by, in_reach, among_lines, add_nought, add-line, add_room, add_gone, add_changed}
-use Rattle.table.proofs.Small.{size_fits}
 use Rattle.table.proofs.Table.add_at.Given.{Over}
 use Rattle.table.proofs.Table.add_at.Goals as goal
 use Rattle.table.proofs.Table.add_at.Goals.{Start, Else-sum-eq0, Then-amount-ne0}
@@ -36,7 +35,7 @@ remove-requires g c =
     let q = c.self.invariant.fits in
     let r = lines_ordered q c.self.view_is in
     let x = Located-by r c.requires.at c.requires.weight in
-    (size_fits g.row.ROWS g.row.TERMS q.capacity (omega (arith, q.terms_length)), among_lines r x (ap not (not_zero c.args.known.weight c.if-old-ne0.true)))
+    (omega arith, among_lines r x (ap not (not_zero c.args.known.weight c.if-old-ne0.true)))
 
 pub returns-then-sum-eq0 : goal.returns-then-sum-eq0
 returns-then-sum-eq0 g c =
@@ -61,7 +60,7 @@ set_weight-requires g c =
     let q = c.self.invariant.fits in
     let r = lines_ordered q c.self.view_is in
     let x = Located-by r c.requires.at c.requires.weight in (
-      size_fits g.row.ROWS g.row.TERMS q.capacity (omega (arith, q.terms_length)),
+      omega arith,
       (
         among_lines r x (ap not (not_zero c.args.known.weight c.if-old-ne0.true)),
         subst IsInOrder (changed g (goal.at.set_weight-requires g c).Else-sum-eq0) (add_ordered c.args.f.now c.args.amount c.args.self.now r),
@@ -86,7 +85,7 @@ insert-requires g c =
     let x = Located-by r c.requires.at c.requires.weight in
     let w = c.args.amount in
     let h = ap not (is_zero_lem c.args.known.weight (search rules) c.if-old-ne0.false) in (
-      size_fits g.row.ROWS g.row.TERMS q.capacity (omega (arith, q.terms_length)),
+      omega arith,
       (
         in_reach r x,
         (

@@ -6,7 +6,6 @@ use Rattle.table.specs.Table.{no_line}
 use Rattle.table.specs.TableLaws.{line_is}
 use Rattle.table.proofs.Searches.{IsBetween, lower, upper, found, missing, first_small, falling}
 use Rattle.table.proofs.Lined.{lines_ordered, starts_at}
-use Rattle.table.proofs.Small.{size_fits}
 use Rattle.table.proofs.Table.find.Given.{Over}
 use Rattle.table.proofs.Table.find.Goals as goal
 use Rattle.table.proofs.Table.find.Goals.{In-loop-low, Joined-side, in-Earlier, in-Later}
@@ -52,7 +51,7 @@ loop-low-init g c =
 
 pub order_at-side-requires : goal.order_at-side-requires
 order_at-side-requires g c =
-    (size_fits g.row.ROWS g.row.TERMS c.self.invariant.fits.capacity (omega (arith, c.self.invariant.fits.terms_length)), (in_table g c, (c.requires.some, c.requires.first)))
+    (omega arith, (in_table g c, (c.requires.some, c.requires.first)))
 
 pub returns-in-Same : goal.returns-in-Same
 returns-in-Same g c =

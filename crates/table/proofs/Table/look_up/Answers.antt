@@ -5,13 +5,12 @@ use borrow.Author.Rules.{rules}
 use Rattle.configuration.proofs.Weights.{read_back}
 use Rattle.table.proofs.Lined.{lines_ordered}
 use Rattle.table.proofs.Located.{among_lines, weight_here, weight_nought}
-use Rattle.table.proofs.Small.{size_fits}
 use Rattle.table.proofs.Table.look_up.Goals as goal
 
 pub weight-requires : goal.weight-requires
 weight-requires g c =
     let q = c.self.invariant.fits in
-    (size_fits g.row.ROWS g.row.TERMS q.capacity (omega (arith, q.terms_length)), among_lines (lines_ordered q c.self.view_is) c.in-Ok.ensures refl)
+    (omega arith, among_lines (lines_ordered q c.self.view_is) c.in-Ok.ensures refl)
 
 pub returns-in-Ok-clause-weight : goal.returns-in-Ok-clause-weight
 returns-in-Ok-clause-weight g c =

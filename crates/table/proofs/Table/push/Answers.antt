@@ -10,7 +10,6 @@ use mir.Facts.{to_z-of_z}
 use Rattle.configuration.specs.Configuration.{Line, line, some, IsInOrder}
 use Rattle.table.proofs.Lined.{many}
 use Rattle.table.proofs.Searches.{some-length, first_key_lem}
-use Rattle.table.proofs.Small.{size_fits}
 use Rattle.table.proofs.Written.{last_some}
 use Rattle.table.proofs.Table.push.Goals as goal
 
@@ -29,7 +28,7 @@ insert-requires g c =
     let w = c.args.weight in
     let m = many q c.self.view_is in
     let s : T (some f) = last_some L f w c.requires.ordered in (
-      size_fits g.row.ROWS g.row.TERMS q.capacity (omega (arith, q.terms_length)),
+      omega arith,
       (
         omega (arith, m),
         (
