@@ -11,8 +11,9 @@ use crate::{Entry, Head};
 use configuration::area::{is_zero, part};
 use configuration::form::is_polynomial;
 use configuration::weight::within_limit;
+use polynomial::Polynomial;
 use polynomial::order::compare;
-use polynomial::{Ordering, Polynomial};
+use std::cmp::Ordering;
 
 // Whether a line may be held, with its weight in range.
 fn line_fits(variables: u32, terms: &[u32], weight: i64) -> bool
@@ -35,7 +36,7 @@ fn stands_before(f: &[u32], g: &[u32]) -> bool
     ensures { result ≡ by_order (order_of f.now g.now) true false false }
 {
     let order = compare(f, g);
-    let Ordering::Earlier = order else {
+    let Ordering::Less = order else {
         return false;
     };
     true
