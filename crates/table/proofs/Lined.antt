@@ -7,7 +7,7 @@ use lib.Dec.{T}
 use lib.IntN.{pos}
 use lib.ListN.{length, get_or, take}
 use Rattle.polynomial.specs.Polynomial.{order_of}
-use Rattle.polynomial.specs.declared.Ordering.TheVariants.{Earlier}
+use Rattle.std.specs.declared.cmp.Ordering.TheVariants.{Less}
 use Rattle.configuration.specs.Configuration.{Line, polynomial_of, some, IsInOrder}
 use Rattle.table.specs.Rows.{Table, row_of, key_in, terms_in, lines_of, first_key, Fits, ahead}
 use Rattle.table.specs.RowsLaws.{length_lines, line_at, Entered-at, line_some, held_below}
@@ -52,7 +52,7 @@ module _ {c : ℕ} {t : Table} (q : Fits c t) {L : List Line} (e : lines_of t �
 
   module _ (small : (j : ℕ) → get_or t.terms j 0 < 2 ^ 32) (f : List ℕ) (s : T (some f)) (b : get_or f 0 0 < 2 ^ 32) where
     -- a line whose first key is lower stands behind f
-    pub behind_key : (i : ℕ) → i < length L → key_in (get_or t.order i 0) < first_key f → Earlier ≡ order_of f (terms_at L i)
+    pub behind_key : (i : ℕ) → i < length L → key_in (get_or t.order i 0) < first_key f → Less ≡ order_of f (terms_at L i)
     behind_key i h k = sym (key_earlier f (terms_at L i) s (some_is i h) b (first_small_at small i h) (rw (key_is i h) at k))
 
     -- f's place is not among the lines that are ahead by their keys

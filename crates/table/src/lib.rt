@@ -15,9 +15,9 @@ ghost use Rattle.table.specs.Table.{IsKept, terms_at, weight_at, first_degree, L
 
 use configuration::weight::is_negative;
 use order::{ahead, insert_entry, key_at, remove_entry, row_at};
-use polynomial::Ordering;
 use polynomial::area::write;
 use polynomial::order::{compare, least};
+use std::cmp::Ordering;
 use std::marker::Model;
 
 // Where a polynomial stands, or would stand, and its weight: 0 if it is not held.
@@ -123,7 +123,7 @@ impl<const ROWS: usize, const TERMS: usize> Table<ROWS, TERMS> {
         ensures { result ≡ order_of f.now (terms_at self.now at) }
     {
         if key_at(&self.order, at) < first {
-            return Ordering::Earlier;
+            return Ordering::Less;
         }
         compare(f, self.terms(at))
     }
@@ -143,13 +143,13 @@ impl<const ROWS: usize, const TERMS: usize> Table<ROWS, TERMS> {
         while low < high {
             let side = self.order_at(middle, f, first);
             match side {
-                Ordering::Earlier => {
+                Ordering::Less => {
                     high = middle;
                 }
-                Ordering::Same => {
+                Ordering::Equal => {
                     return Ok(middle);
                 }
-                Ordering::Later => {
+                Ordering::Greater => {
                     low = middle + 1;
                 }
             }

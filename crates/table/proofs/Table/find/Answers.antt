@@ -8,7 +8,7 @@ use Rattle.table.proofs.Searches.{IsBetween, lower, upper, found, missing, first
 use Rattle.table.proofs.Lined.{lines_ordered, starts_at}
 use Rattle.table.proofs.Table.find.Given.{Over}
 use Rattle.table.proofs.Table.find.Goals as goal
-use Rattle.table.proofs.Table.find.Goals.{In-loop-low, Joined-side, in-Earlier, in-Later}
+use Rattle.table.proofs.Table.find.Goals.{In-loop-low, Joined-side, in-Less, in-Greater}
 
 -- the line that is looked at
 in_table : (g : Over) (c : goal.In-loop-low g) → c.loop-low.middle < length c.args.self.now
@@ -25,9 +25,9 @@ narrowed g c =
     let m = l.invariant.2 c.loop-low-test.true in
     let e = line_is c.args.self.now l.middle no_line (in_table g (goal.at.Joined-side g c).In-loop-low) in
     elim c.match-side.branch [
-      | in-Earlier w ↦ (rw (w.high-is, w.low-is) (lower _ _ _ _ l.middle l.invariant.0 m _ _ e (sym c.order_at-side.ensures ∙ w.in-Earlier.is)), rw (w.high-is, w.low-is) (omega (arith, l.invariant.1)))
-      | in-Later w ↦ (
-        rw (w.high-is, w.low-is) (upper _ _ _ _ l.middle l.invariant.0 m _ _ e (lines_ordered c.self.invariant.fits c.self.view_is) (sym c.order_at-side.ensures ∙ w.in-Later.is)),
+      | in-Less w ↦ (rw (w.high-is, w.low-is) (lower _ _ _ _ l.middle l.invariant.0 m _ _ e (sym c.order_at-side.ensures ∙ w.in-Less.is)), rw (w.high-is, w.low-is) (omega (arith, l.invariant.1)))
+      | in-Greater w ↦ (
+        rw (w.high-is, w.low-is) (upper _ _ _ _ l.middle l.invariant.0 m _ _ e (lines_ordered c.self.invariant.fits c.self.view_is) (sym c.order_at-side.ensures ∙ w.in-Greater.is)),
         rw (w.high-is, w.low-is) (omega (arith, l.invariant.1)),
       )
     ]
@@ -53,11 +53,11 @@ pub order_at-side-requires : goal.order_at-side-requires
 order_at-side-requires g c =
     (omega arith, (in_table g c, (c.requires.some, c.requires.first)))
 
-pub returns-in-Same : goal.returns-in-Same
-returns-in-Same g c =
+pub returns-in-Equal : goal.returns-in-Equal
+returns-in-Equal g c =
     let l = c.loop-low in
-    let x = found _ _ _ _ l.middle l.invariant.0 (l.invariant.2 c.loop-low-test.true) _ _ (line_is c.args.self.now l.middle no_line (in_table g (goal.at.returns-in-Same g c).In-loop-low))
-    (lines_ordered c.self.invariant.fits c.self.view_is) (sym c.order_at-side.ensures ∙ c.in-Same.is) in
+    let x = found _ _ _ _ l.middle l.invariant.0 (l.invariant.2 c.loop-low-test.true) _ _ (line_is c.args.self.now l.middle no_line (in_table g (goal.at.returns-in-Equal g c).In-loop-low))
+    (lines_ordered c.self.invariant.fits c.self.view_is) (sym c.order_at-side.ensures ∙ c.in-Equal.is) in
     record { place = x.0; is = x.1 }
 
 pub loop-low-preserved : goal.loop-low-preserved
