@@ -66,11 +66,7 @@ pub fn insert_entry(order: &mut [u64], at: usize, end: usize, entry: u64)
     requires { (at ≤ end) × (end < length order.old) }
     ensures { let is = order.old in order.new ≡ take at is ++ (entry ∷ (slice at end is ++ drop (end + 1) is)) }
 {
-    let mut i = end;
-    while at < i {
-        i -= 1;
-        order[i + 1] = order[i];
-    }
+    order.copy_within(at..end, at + 1);
     order[at] = entry;
 }
 
@@ -80,10 +76,6 @@ pub fn remove_entry(order: &mut [u64], at: usize, end: usize, entry: u64)
     requires { (at < end) × (end ≤ length order.old) }
     ensures { let is = order.old in order.new ≡ take at is ++ (slice (at + 1) end is ++ (entry ∷ drop end is)) }
 {
-    let mut i = at + 1;
-    while i < end {
-        order[i - 1] = order[i];
-        i += 1;
-    }
+    order.copy_within(at + 1..end, at);
     order[end - 1] = entry;
 }
