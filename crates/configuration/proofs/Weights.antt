@@ -1,17 +1,17 @@
 -- A weight as code has it: its bits, its sign and its range.
 use mathlib.Core.Path.{◌≡◌, refl, sym, ap, ap₂, ◌∙◌}
-use mathlib.Core.Bool.{Bool, true, false, not, ◌&&◌, true≢false}
+use mathlib.Core.Bool.{Bool, true, false, not, ◌&&◌}
 use Prim.Native.Nat.{ℕ, zero, suc, ◌-◌, ◌^◌, ◌≤◌, ◌<◌}
 use native.Mathlib.Omega.{arith}
 use lib.Bits.{bit_or, or_add_and, and_le_l, and_le_r, or_lt}
 use lib.Dec.{eqb, ltb}
 use lib.IntN.{ℤ, pos, negsuc}
-use lib.Signed.{lt_z, le_z, mag}
+use lib.Signed.{mag}
 use mir.Syntax.{w64}
 use mir.Val.{to_z, of_z}
 use mir.Facts.{to_z-of_z}
-use borrow.Author.Tests.{ne_eqb, lt-ltb, le-ltb, lt-leb, le-leb, ltb-true, ltb-false}
-use Rattle.configuration.specs.Weight.{in_range, is_zero, is_negative}
+use borrow.Author.Tests.{ne_eqb, lt-ltb, le-ltb, ltb-true, ltb-false}
+use Rattle.configuration.specs.Weight.{is_zero, is_negative}
 
 -- ---- a weight and its bits
 pub read_back : (w : ℤ) → mag w < 2 ^ 63 → to_z w64 (of_z w64 w) ≡ w
@@ -61,12 +61,3 @@ pub zero_bits : (w : ℤ) → mag w < 2 ^ 63 → eqb (of_z w64 w) 0 ≡ is_zero 
 zero_bits (pos zero) h = refl
 zero_bits (pos (suc n)) h = ne_eqb (suc n) 0 (λ e. omega arith)
 zero_bits (negsuc n) h = ne_eqb (2 ^ 64 - suc n) 0 (λ e. omega arith)
-
--- ---- the range of a weight
-pub too_low : (w : ℤ) → lt_z w (negsuc 999999999999) ≡ true → in_range w ≡ false
-too_low (pos n) e = absurd (true≢false (sym e))
-too_low (negsuc n) e = lt-leb (suc n) 1000000000000 (omega (arith, ltb-true 999999999999 n e))
-
-pub not_low : (w : ℤ) → lt_z w (negsuc 999999999999) ≡ false → le_z w (pos 1000000000000) ≡ in_range w
-not_low (pos n) e = refl
-not_low (negsuc n) e = sym (le-leb (suc n) 1000000000000 (omega (arith, ltb-false 999999999999 n e)))

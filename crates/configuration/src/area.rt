@@ -7,8 +7,7 @@ pub fn part(area: &[u32], start: usize, count: usize) -> &[u32]
     requires { start + count ≤ length area.now }
     ensures { result.now ≡ take count (drop start area.now) }
 {
-    let end = start + count;
-    &area[start..end]
+    &area[start..start + count]
 }
 
 // Whether every number of an area is zero: their bits are joined, without a branch, so that several are looked at at once.
@@ -16,10 +15,8 @@ pub fn is_zero(area: &[u32]) -> bool
     ensures { result ≡ zeros area.now }
 {
     let mut bits: u32 = 0;
-    let mut i: usize = 0;
-    while i < area.len() {
-        bits = bits | area[i];
-        i += 1;
+    for x in area {
+        bits |= *x;
     }
     bits == 0
 }

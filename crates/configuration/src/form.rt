@@ -8,24 +8,14 @@ use polynomial::order::in_order;
 pub fn is_term(variables: u32, term: u32) -> bool
     ensures { result ≡ ltb term (2 ^ variables) }
 {
-    if 32 <= variables {
-        return true;
-    }
-    term < 1u32 << variables
+    32 <= variables || term < 1u32 << variables
 }
 
 // Whether every term has its variables among the first ones.
 pub fn is_below(variables: u32, terms: &[u32]) -> bool
     ensures { result ≡ below variables terms.now }
 {
-    let mut i: usize = 0;
-    while i < terms.len() {
-        if !is_term(variables, terms[i]) {
-            return false;
-        }
-        i += 1;
-    }
-    true
+    terms.iter().all(|term| is_term(variables, *term))
 }
 
 // Whether a run of terms is a polynomial of so many variables.
@@ -33,11 +23,5 @@ pub fn is_below(variables: u32, terms: &[u32]) -> bool
 pub fn is_polynomial(variables: u32, terms: &[u32]) -> bool
     ensures { result ≡ is_polynomial variables terms.now }
 {
-    if 64 < terms.len() {
-        return false;
-    }
-    if !is_below(variables, terms) {
-        return false;
-    }
-    in_order(terms)
+    terms.len() <= 64 && is_below(variables, terms) && in_order(terms)
 }

@@ -13,8 +13,5 @@ pub fn is_negative(weight: i64) -> bool
 pub fn within_limit(weight: i64) -> bool
     ensures { result ≡ in_range weight }
 {
-    if weight < -1000000000000 {
-        return false;
-    }
-    weight <= 1000000000000
+    weight.unsigned_abs() <= 1000000000000
 }

@@ -6,9 +6,5 @@ pub fn write(area: &mut [u32], at: usize, run: &[u32])
     requires { at + length run.now ≤ length area.old }
     ensures { let l = area.old in let s = run.now in area.new ≡ take at l ++ (s ++ drop (at + length s) l) }
 {
-    let mut i: usize = 0;
-    while i < run.len() {
-        area[at + i] = run[i];
-        i += 1;
-    }
+    area[at..at + run.len()].copy_from_slice(run);
 }

@@ -30,23 +30,23 @@ fn arranged(fixed: u32, masks: &[u32], out: &mut [u32]) -> usize
 }
 
 // The product of two runs of terms, of which one mask has the variables that every product has, and another the rest, by a
-// table of zeros with a place for each subset of the latter; the other area is work space for the subsets.
-fn product_by(
+// table with a place for each subset of the latter.
+fn product_by<const PLACES: usize>(
     fixed: u32,
     mask: u32,
     f: &[u32],
     g: &[u32],
-    masks: &mut [u32],
-    table: &mut [u8],
     out: &mut [u32],
 ) -> usize
-    requires { let p = f.now in let q = g.now in let n = 2 ^ degree_of mask in
+    requires { let p = f.now in let q = g.now in
         (length p ≤ 64) × (length q ≤ 64) × (fixed ≡ common_of p q) × (mask ≡ varying_of p q) × (degree_of mask ≤ 12)
-        × (n ≤ length masks.old) × (n ≤ length table.old) × (table.old ≡ replicate (length table.old) 0) × (length out.old ≡ 64) }
+        × (2 ^ degree_of mask ≤ PLACES) × (PLACES ≤ 4096) × (length out.old ≡ 64) }
     ensures size { result ≡ length (product_of f.now g.now) }
     ensures product { out.new ≡ placed (product_of f.now g.now) out.old }
 {
-    let count = odd_subsets(mask, f, g, masks, table);
+    let mut masks = [0u32; PLACES];
+    let mut table = [0u8; PLACES];
+    let count = odd_subsets(mask, f, g, &mut masks, &mut table);
     arranged(fixed, &masks[..count], out)
 }
 
@@ -59,11 +59,7 @@ pub fn product_few(fixed: u32, mask: u32, f: &[u32], g: &[u32], out: &mut [u32])
     ensures product { out.new ≡ placed (product_of f.now g.now) out.old }
 {
     if term::degree(mask) <= 8 {
-        let mut masks = [0u32; 256];
-        let mut table = [0u8; 256];
-        return product_by(fixed, mask, f, g, &mut masks, &mut table, out);
+        return product_by::<256>(fixed, mask, f, g, out);
     }
-    let mut masks = [0u32; 4096];
-    let mut table = [0u8; 4096];
-    product_by(fixed, mask, f, g, &mut masks, &mut table, out)
+    product_by::<4096>(fixed, mask, f, g, out)
 }

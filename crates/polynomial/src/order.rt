@@ -6,11 +6,11 @@ ghost use Rattle.polynomial.specs.Polynomial.{order_of};
 
 use std::cmp::Ordering;
 
-// The lesser of two numbers.
+// The lesser of two numbers. It is for the crate `table`.
 pub fn least(a: usize, b: usize) -> usize
     ensures { result ≡ min a b }
 {
-    if a < b { a } else { b }
+    a.min(b)
 }
 
 // Where one run of terms stands beside another, which is less if it stands earlier: at the first place where they differ the one with
@@ -18,38 +18,21 @@ pub fn least(a: usize, b: usize) -> usize
 pub fn compare(f: &[u32], g: &[u32]) -> Ordering
     ensures { result ≡ order_of f.now g.now }
 {
-    let shorter = least(f.len(), g.len());
-    let mut i: usize = 0;
-    while i < shorter {
-        let a = f[i];
-        let b = g[i];
+    for (a, b) in f.iter().zip(g) {
         if a != b {
-            if term::precedes(a, b) {
-                return Ordering::Less;
-            }
-            return Ordering::Greater;
+            return if term::precedes(*a, *b) {
+                Ordering::Less
+            } else {
+                Ordering::Greater
+            };
         }
-        i += 1;
     }
-    if i < g.len() {
-        return Ordering::Less;
-    }
-    if i < f.len() {
-        return Ordering::Greater;
-    }
-    Ordering::Equal
+    f.len().cmp(&g.len())
 }
 
 // Whether a run of terms is in strict written order.
 pub fn in_order(terms: &[u32]) -> bool
     ensures { result ≡ sorted before terms.now }
 {
-    let mut i: usize = 1;
-    while i < terms.len() {
-        if !term::precedes(terms[i - 1], terms[i]) {
-            return false;
-        }
-        i += 1;
-    }
-    true
+    terms.is_sorted_by(|a, b| term::precedes(*a, *b))
 }

@@ -16,21 +16,21 @@ fn short_product(f: &[u32], g: &[u32], out: &mut [u32]) -> usize
     ensures product { take result out.new ≡ product_of f.now g.now }
 {
     let mut count: usize = 0;
-    let mut i: usize = 0;
-    while i < f.len() {
-        count = toggle_all(out, count, f[i], g);
-        i += 1;
+    for factor in f {
+        count = toggle_all(out, count, *factor, g);
     }
     count
 }
 
 // The product of two runs of terms by sorting, in areas that hold all the products of their terms.
-fn product_in(f: &[u32], g: &[u32], keys: &mut [u64], spare: &mut [u64], out: &mut [u32]) -> usize
-    requires { let n = length f.now * length g.now in (n ≤ length keys.old) × (n ≤ length spare.old) × (length out.old ≡ 64) }
+fn product_in<const ROOM: usize>(f: &[u32], g: &[u32], out: &mut [u32]) -> usize
+    requires { (length f.now * length g.now ≤ ROOM) × (ROOM ≤ 4096) × (length out.old ≡ 64) }
     ensures size { result ≡ length (product_of f.now g.now) }
     ensures product { out.new ≡ placed (product_of f.now g.now) out.old }
 {
-    let count = ordered_products(f, g, keys, spare);
+    let mut keys = [0u64; ROOM];
+    let mut spare = [0u64; ROOM];
+    let count = ordered_products(f, g, &mut keys, &mut spare);
     write_masks(&keys[..count], out)
 }
 
@@ -48,13 +48,9 @@ fn long_product(f: &[u32], g: &[u32], out: &mut [u32]) -> usize
         return product_few(fixed, mask, f, g, out);
     }
     if pairs <= 256 {
-        let mut keys = [0u64; 256];
-        let mut spare = [0u64; 256];
-        return product_in(f, g, &mut keys, &mut spare, out);
+        return product_in::<256>(f, g, out);
     }
-    let mut keys = [0u64; 4096];
-    let mut spare = [0u64; 4096];
-    product_in(f, g, &mut keys, &mut spare, out)
+    product_in::<4096>(f, g, out)
 }
 
 // Writes f g to the front of an area of 64, where it fits. Answers how many terms it has. Few products of terms are added one by one.

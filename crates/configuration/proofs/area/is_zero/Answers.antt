@@ -1,21 +1,19 @@
-use mathlib.Core.Path.{refl}
-use native.Mathlib.Omega.{arith}
-use lib.Dec.{eqb}
-use lib.ListN.{get_or}
+use Rattle.std.proofs.Common.{Bool, ◌&&◌, eqb, get_or, take, refl, sym, ap, ◌∙◌, arith}
+use Rattle.std.proofs.lemmas.List.{take_more}
+use Rattle.std.proofs.lemmas.List.Recursion.{and_push}
 use Rattle.configuration.specs.Area.{zeros}
-use Rattle.configuration.proofs.Tests.{one_joined, all_joined}
 use Rattle.configuration.proofs.Weights.{joined_zero}
 use Rattle.configuration.proofs.area.is_zero.Goals as goal
 
-pub loop-i-preserved : goal.loop-i-preserved
+pub loop-x-init : goal.loop-x-init
 unfolding zeros
-loop-i-preserved c =
-    let l = c.loop-i in
-    let s = c.args.area.now in
-    (one_joined (λ x. eqb x 0) zeros refl (λ x r. refl) s l.i 0 (eqb l.bits 0) l.invariant.0 _ (joined_zero l.bits (get_or s l.i 0)) (omega arith), omega arith)
+loop-x-init c = refl
 
-pub returns : goal.returns
+pub loop-x-preserved : goal.loop-x-preserved
 unfolding zeros
-returns c =
-    let l = c.loop-i in
-    all_joined (λ x. eqb x 0) zeros refl (λ x r. refl) c.args.area.now l.i 0 (eqb l.bits 0) l.invariant.0 (omega arith)
+loop-x-preserved c =
+    let l = c.loop-x in
+    let s = c.args.area.now in
+    let x = get_or s l.x-index 0 in
+    joined_zero l.bits x ∙ ap (λ (b : Bool). b && eqb x 0) l.invariant ∙ sym (and_push zeros (λ x. eqb x 0) refl (λ _ _. refl) (take l.x-index s) x)
+    ∙ sym (ap zeros (take_more s l.x-index 0 (omega arith)))

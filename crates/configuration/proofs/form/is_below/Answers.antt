@@ -1,30 +1,15 @@
-use mathlib.Core.Path.{refl, sym, ◌∙◌}
-use Prim.Native.Nat.{◌^◌}
-use native.Mathlib.Omega.{arith}
-use lib.Dec.{ltb}
+-- `is_below` meets its contract: every term passes the test.
+use Rattle.std.proofs.Common.{◌^◌, ◌&&◌, ltb, refl, sym, ◌∙◌, rules, tests}
+use Rattle.std.specs.List.{list_all}
+use Rattle.std.proofs.lemmas.Iterator.{YieldsList-from_slice}
+use Rattle.std.proofs.lemmas.Iterator.Search.{all_from_yields_List}
+use Rattle.std.proofs.lemmas.List.Recursion.{same_from_clauses}
 use Rattle.configuration.specs.Configuration.{below}
-use Rattle.configuration.proofs.Tests.{stops, goes_on, ends}
 use Rattle.configuration.proofs.form.is_below.Goals as goal
-
-pub returns-then-not-is_term : goal.returns-then-not-is_term
-unfolding below
-returns-then-not-is_term c =
-    let l = c.loop-i in
-    let a = c.args in
-    stops (λ t. ltb t (2 ^ a.variables)) (below a.variables) refl (λ t f. refl) a.terms.now l.i 0 (omega arith)
-    (sym c.is_term.ensures ∙ c.if-not-is_term.true) l.invariant
-
-pub loop-i-preserved : goal.loop-i-preserved
-unfolding below
-loop-i-preserved c =
-    let l = c.loop-i in
-    let a = c.args in
-    goes_on (λ t. ltb t (2 ^ a.variables)) (below a.variables) refl (λ t f. refl) a.terms.now l.i 0 (omega arith)
-    (sym c.is_term.ensures ∙ c.if-not-is_term.false) l.invariant
 
 pub returns : goal.returns
 unfolding below
 returns c =
-    let l = c.loop-i in
     let a = c.args in
-    ends (λ t. ltb t (2 ^ a.variables)) (below a.variables) refl (λ t f. refl) a.terms.now l.i 0 (omega arith) l.invariant
+    all_from_yields_List (λ t. ltb t (2 ^ a.variables)) _ _ c.all.result c.all.ensures.ran (YieldsList-from_slice a.terms.now cc) (λ x b q k. search (rules, tests))
+    ∙ sym (same_from_clauses (below a.variables) (list_all (λ t. ltb t (2 ^ a.variables))) (λ t b. ltb t (2 ^ a.variables) && b) refl (λ _ _. refl) (λ _ _. refl) a.terms.now)

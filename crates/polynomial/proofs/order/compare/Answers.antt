@@ -1,55 +1,43 @@
-use mathlib.Core.Path.{sym, ◌∙◌}
-use mathlib.Core.Bool.{true, false}
-use native.Mathlib.Omega.{arith}
-use Rattle.polynomial.proofs.OrderSteps.{same_term, other_term, ended_first, ended_last, ended_both}
+use Rattle.std.proofs.Common.{◌∷◌, [], ℕ, true, false, length, drop, sym, ap, ◌∙◌, length-append}
+use Rattle.std.proofs.lemmas.Slice.Zip.{zip_turn, zip_end}
+use Rattle.polynomial.specs.Polynomial.{order_of}
+use Rattle.polynomial.proofs.OrderSteps.{same_term, other_term, ended}
 use Rattle.polynomial.proofs.order.compare.Goals as goal
 
 pub returns-then-precedes : goal.returns-then-precedes
 returns-then-precedes c =
-    let l = c.loop-i in
-    let a = c.args in
-    let f = a.f.now in
-    let g = a.g.now in
-    let o = sym c.precedes.ensures ∙ c.if-precedes.true in
-    sym (sym l.invariant.2 ∙ other_term f g l.i true (omega arith) (omega arith) c.if-a-b.true o)
+    let l = c.loop-a in
+    let f = c.args.f.now in
+    let g = c.args.g.now in
+    let a = c.in-Some.a in
+    let b = c.in-Some.b in
+    let z = zip_turn f g l.yielded c.into_iter-a-iterator.result l.a-iterator c.next.new.self c.next.result (cc) (cc) l.yielded_by (a, b) c.in-Some.is c.next.ensures.steps in
+    sym (sym l.invariant ∙ other_term f g (length l.yielded) a.now b.now z.0 z.1 (z.2 0) (z.3 0) true c.if-a-b.true (sym c.precedes.ensures ∙ c.if-precedes.true))
 
-pub returns-then-a-b : goal.returns-then-a-b
-returns-then-a-b c =
-    let l = c.loop-i in
-    let a = c.args in
-    let f = a.f.now in
-    let g = a.g.now in
-    let o = sym c.precedes.ensures ∙ c.if-precedes.false in
-    sym (sym l.invariant.2 ∙ other_term f g l.i false (omega arith) (omega arith) c.if-a-b.true o)
+pub returns-else-precedes : goal.returns-else-precedes
+returns-else-precedes c =
+    let l = c.loop-a in
+    let f = c.args.f.now in
+    let g = c.args.g.now in
+    let a = c.in-Some.a in
+    let b = c.in-Some.b in
+    let z = zip_turn f g l.yielded c.into_iter-a-iterator.result l.a-iterator c.next.new.self c.next.result (cc) (cc) l.yielded_by (a, b) c.in-Some.is c.next.ensures.steps in
+    sym (sym l.invariant ∙ other_term f g (length l.yielded) a.now b.now z.0 z.1 (z.2 0) (z.3 0) false c.if-a-b.true (sym c.precedes.ensures ∙ c.if-precedes.false))
 
-pub loop-i-preserved : goal.loop-i-preserved
-loop-i-preserved c =
-    let l = c.loop-i in
-    let a = c.args in
-    let f = a.f.now in
-    let g = a.g.now in
-    (omega arith, l.invariant.1, same_term f g l.i (omega arith) (omega arith) c.if-a-b.false ∙ l.invariant.2)
-
-pub returns-then-i-g : goal.returns-then-i-g
-returns-then-i-g c =
-    let l = c.loop-i in
-    let a = c.args in
-    let f = a.f.now in
-    let g = a.g.now in
-    sym (sym l.invariant.2 ∙ ended_first f g l.i (omega arith) (omega arith))
-
-pub returns-then-i-f : goal.returns-then-i-f
-returns-then-i-f c =
-    let l = c.loop-i in
-    let a = c.args in
-    let f = a.f.now in
-    let g = a.g.now in
-    sym (sym l.invariant.2 ∙ ended_last f g l.i (omega arith) (omega arith))
+pub loop-a-preserved : goal.loop-a-preserved
+loop-a-preserved c =
+    let l = c.loop-a in
+    let f = c.args.f.now in
+    let g = c.args.g.now in
+    let a = c.in-Some.a in
+    let b = c.in-Some.b in
+    let z = zip_turn f g l.yielded c.into_iter-a-iterator.result l.a-iterator c.next.new.self c.next.result (cc) (cc) l.yielded_by (a, b) c.in-Some.is c.next.ensures.steps in
+    ap (λ (k : ℕ). order_of (drop k f) (drop k g)) (length-append l.yielded ((a, b) ∷ [])) ∙ same_term f g (length l.yielded) a.now b.now z.0 z.1 (z.2 0) (z.3 0) c.if-a-b.false ∙ l.invariant
 
 pub returns : goal.returns
 returns c =
-    let l = c.loop-i in
-    let a = c.args in
-    let f = a.f.now in
-    let g = a.g.now in
-    sym (sym l.invariant.2 ∙ ended_both f g l.i (omega arith) (omega arith))
+    let l = c.loop-a in
+    let f = c.args.f.now in
+    let g = c.args.g.now in
+    let e = zip_end f g l.yielded c.into_iter-a-iterator.result l.a-iterator c.next.new.self c.next.result (cc) (cc) l.yielded_by c.in-None.is c.next.ensures.steps in
+    c.cmp.ensures ∙ sym (ended f g) ∙ ap (λ (k : ℕ). order_of (drop k f) (drop k g)) (sym e) ∙ l.invariant

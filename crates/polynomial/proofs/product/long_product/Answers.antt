@@ -21,4 +21,4 @@ product_few-requires c =
 pub product_in-requires-2 : goal.product_in-requires-2
 product_in-requires-2 c =
     let most = most_products (length c.args.f.now) (length c.args.g.now) c.requires.0 c.requires.1 in
-    (most, most, c.requires.2)
+    (most, omega arith, c.requires.2)
