@@ -11,6 +11,7 @@ use lib.Dec.{eqb}
 use lib.ListN.{length, get_or, take, drop, set, replicate, drop_of_length-le, length-append, length-map, length-replicate}
 use lib.Seq.{drop-cons, drop-set-lt, take-suc-set, take-set-le, take_all, take_at, take-append-le}
 use borrow.Author.Tests.{ne_eqb}
+use Rattle.std.specs.List.{fold}
 use Rattle.term.specs.Term.{degree_of}
 use Rattle.run.specs.Run.{All, odd}
 use Rattle.mask.specs.Mask.{unions, subsets_of}
@@ -22,21 +23,15 @@ use Rattle.mask.specs.FewLaws.{index_lt, length-toggled, one, toggled_zeros}
 next : (l : List ℕ) (i : ℕ) → i < length l → drop i l ≡ get_or l i 0 ∷ drop (i + 1) l
 next l i h = rw (add-one i) (drop-cons l i 0 h)
 
-pub joined_more : (v : ℕ) (f : List ℕ) (i : ℕ) → i < length f → united (bit_or v (get_or f i 0)) (drop (i + 1) f) ≡ united v (drop i f)
+pub united_fold : (v : ℕ) (f : List ℕ) → fold bit_or v f ≡ united v f
 unfolding united
-joined_more v f i h = ap (united v) (sym (next f i h))
+united_fold v [] = refl
+united_fold v (t ∷ f) = united_fold (bit_or v t) f
 
-pub joined_all_lem : (v : ℕ) (f : List ℕ) (i : ℕ) → length f ≤ i → united v (drop i f) ≡ v
-unfolding united
-joined_all_lem v f i h = ap (united v) (drop_of_length-le f h)
-
-pub shared_more : (v : ℕ) (f : List ℕ) (i : ℕ) → i < length f → shared (bit_and v (get_or f i 0)) (drop (i + 1) f) ≡ shared v (drop i f)
+pub shared_fold : (v : ℕ) (f : List ℕ) → fold bit_and v f ≡ shared v f
 unfolding shared
-shared_more v f i h = ap (shared v) (sym (next f i h))
-
-pub shared_all : (v : ℕ) (f : List ℕ) (i : ℕ) → length f ≤ i → shared v (drop i f) ≡ v
-unfolding shared
-shared_all v f i h = ap (shared v) (drop_of_length-le f h)
+shared_fold v [] = refl
+shared_fold v (t ∷ f) = shared_fold (bit_and v t) f
 
 -- ---- one place written: what stands before it and behind it is as it was
 written : (out : List ℕ) (k v : ℕ) → k < length out → take (k + 1) (set out k v) ≡ take k out ++ (v ∷ [])
