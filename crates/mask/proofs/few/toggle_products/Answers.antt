@@ -1,14 +1,15 @@
 -- The indices stand in front of their areas.
 use Rattle.mask.specs.Few.{index_of}
 use lib.ListN.{length}
-use Rattle.mask.proofs.FewSteps.{take_zeros, front_is, unions_fit}
+use Rattle.std.proofs.lemmas.List.{take-replicate}
+use Rattle.mask.proofs.FewSteps.{front_is, unions_fit}
 use Rattle.mask.proofs.few.toggle_products.Goals as goal
 
 pub indices-requires : goal.indices-requires
-indices-requires c = (c.requires.2, take_zeros (length c.args.f.now) 64 c.requires.0)
+indices-requires c = (c.requires.2, take-replicate (length c.args.f.now) 64 0 c.requires.0)
 
 pub indices-requires-2 : goal.indices-requires-2
-indices-requires-2 c = (c.requires.2, take_zeros (length c.args.g.now) 64 c.requires.1)
+indices-requires-2 c = (c.requires.2, take-replicate (length c.args.g.now) 64 0 c.requires.1)
 
 pub toggle_pairs-requires : goal.toggle_pairs-requires
 toggle_pairs-requires c =
