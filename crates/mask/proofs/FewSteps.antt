@@ -8,9 +8,10 @@ use native.Mathlib.Numerals.{add-one}
 use native.Mathlib.Omega.{arith}
 use lib.Bits.{bit_and, bit_or, bit_xor, or_lt}
 use lib.Dec.{eqb}
-use lib.ListN.{length, get_or, take, drop, set, replicate, drop_of_length-le, length-append, length-map, length-replicate}
-use lib.Seq.{drop-cons, drop-set-lt, take-suc-set, take-set-le, take_all, take_at, take-append-le}
+use lib.ListN.{length, get_or, take, drop, set, replicate, drop_of_length-le, length-map, length-replicate}
+use lib.Seq.{drop-cons, drop-set-lt, take-suc-set, take-set-le, take_all, take_at}
 use borrow.Author.Tests.{ne_eqb}
+use Rattle.std.specs.List.{fold}
 use Rattle.term.specs.Term.{degree_of}
 use Rattle.run.specs.Run.{All, odd}
 use Rattle.mask.specs.Mask.{unions, subsets_of}
@@ -18,25 +19,20 @@ use Rattle.mask.specs.SubsetLaws.{length_subsets}
 use Rattle.mask.specs.Few.{united, shared, digit, with_digits, index_of, toggled, marked}
 use Rattle.mask.specs.FewLaws.{index_lt, length-toggled, one, toggled_zeros}
 
--- ---- one element of a list more
+-- one element of a list more
 next : (l : List ℕ) (i : ℕ) → i < length l → drop i l ≡ get_or l i 0 ∷ drop (i + 1) l
 next l i h = rw (add-one i) (drop-cons l i 0 h)
 
-pub joined_more : (v : ℕ) (f : List ℕ) (i : ℕ) → i < length f → united (bit_or v (get_or f i 0)) (drop (i + 1) f) ≡ united v (drop i f)
+-- ---- what all terms of a run have, or one of them
+pub united_fold : (v : ℕ) (f : List ℕ) → fold bit_or v f ≡ united v f
 unfolding united
-joined_more v f i h = ap (united v) (sym (next f i h))
+united_fold v [] = refl
+united_fold v (t ∷ f) = united_fold (bit_or v t) f
 
-pub joined_all_lem : (v : ℕ) (f : List ℕ) (i : ℕ) → length f ≤ i → united v (drop i f) ≡ v
-unfolding united
-joined_all_lem v f i h = ap (united v) (drop_of_length-le f h)
-
-pub shared_more : (v : ℕ) (f : List ℕ) (i : ℕ) → i < length f → shared (bit_and v (get_or f i 0)) (drop (i + 1) f) ≡ shared v (drop i f)
+pub shared_fold : (v : ℕ) (f : List ℕ) → fold bit_and v f ≡ shared v f
 unfolding shared
-shared_more v f i h = ap (shared v) (sym (next f i h))
-
-pub shared_all : (v : ℕ) (f : List ℕ) (i : ℕ) → length f ≤ i → shared v (drop i f) ≡ v
-unfolding shared
-shared_all v f i h = ap (shared v) (drop_of_length-le f h)
+shared_fold v [] = refl
+shared_fold v (t ∷ f) = shared_fold (bit_and v t) f
 
 -- ---- one place written: what stands before it and behind it is as it was
 written : (out : List ℕ) (k v : ℕ) → k < length out → take (k + 1) (set out k v) ≡ take k out ++ (v ∷ [])
@@ -68,10 +64,6 @@ pub row_more : (a : ℕ) (row table : List ℕ) (i : ℕ) → i < length row
     ≡ toggled table (map (bit_or a) (drop i row))
 unfolding toggled
 row_more a row table i h = ap (λ (l : List ℕ). toggled table (map (bit_or a) l)) (sym (next row i h))
-
-pub row_all : (a : ℕ) (row table : List ℕ) (i : ℕ) → length row ≤ i → toggled table (map (bit_or a) (drop i row)) ≡ table
-unfolding toggled
-row_all a row table i h = ap (λ (l : List ℕ). toggled table (map (bit_or a) l)) (drop_of_length-le row h)
 
 toggled-append : (table l m : List ℕ) → toggled (toggled table l) m ≡ toggled table (l ++ m)
 unfolding toggled
@@ -137,20 +129,9 @@ pub indices_more : (i m place : ℕ) (f out after : List ℕ) → m / 2 ^ i % 2 
 indices_more i m place f out after e p inv a = a ∙ ap₂ (λ (k : ℕ) (l : List ℕ). with_digits i k f l) p inv ∙ digits_with i m f e
 
 -- ---- the indices of f stand in front of an area, and those of g of another
-pub take_zeros : (n m : ℕ) → n ≤ m → take {A = ℕ} n (replicate m 0) ≡ replicate n 0
-take_zeros zero m h = refl
-take_zeros (suc n) zero h = absurd (not-suc-le-zero h)
-take_zeros (suc n) (suc m) h = ap (λ (l : List ℕ). 0 ∷ l) (take_zeros n m (le_of_suc-le-suc h))
-
-longer : (n : ℕ) (K rest : List ℕ) → n ≤ length K → n ≤ length (K ++ rest)
-longer n K rest h = omega (arith, length-append K rest)
-
 module _ (φ : ℕ → ℕ) (f K rest : List ℕ) (e : K ≡ map φ f) where
   as_long : length K ≡ length f
   as_long = ap length e ∙ length-map f φ
-
-  pub front_fits : length f ≤ length (K ++ rest)
-  front_fits = longer (length f) K rest (omega (arith, as_long))
 
   pub front_is : take (length f) (K ++ rest) ≡ map φ f
   front_is = take_at K rest (length f) as_long ∙ e
@@ -172,7 +153,7 @@ unions_fit m n f g F G h k ef eg = rw (ef, eg)
     fits : (s t : ℕ) → bit_or (index_of 32 m s) (index_of 32 m t) < n
     fits s t = omega (arith, or_lt (degree_of m) (index_of 32 m s) (index_of 32 m t) (place s) (place t))
 
--- ---- the table that is left, and the masks that are chosen by it
+-- ---- the table that is left
 pub from_zeros : (n : ℕ) (l table after : List ℕ) → table ≡ replicate n 0 → after ≡ toggled table l → after ≡ toggled (replicate n 0) l
 from_zeros n l table after e a = a ∙ ap (λ (t : List ℕ). toggled t l) e
 
@@ -184,7 +165,3 @@ table_small n l table e i h =
     small : (b : Bool) → one b ≤ 1
     small true = omega arith
     small false = omega arith
-
-pub chosen_front : (subsets table masks C rest : List ℕ) (r : ℕ) → r ≤ length masks → length C ≡ length masks → masks ≡ subsets → take r C ≡ marked masks table
-    → take r (C ++ rest) ≡ marked subsets table
-chosen_front subsets table masks C rest r h k e c = take-append-le r C rest (omega arith) ∙ c ∙ ap (λ (l : List ℕ). marked l table) e

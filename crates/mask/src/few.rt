@@ -13,13 +13,7 @@ use crate::subsets;
 fn variables_with(mask: u32, terms: &[u32]) -> u32
     ensures { result ≡ united mask terms.now }
 {
-    let mut all = mask;
-    let mut i: usize = 0;
-    while i < terms.len() {
-        all = all | terms[i];
-        i += 1;
-    }
-    all
+    terms.iter().fold(mask, |all, &term| all | term)
 }
 
 // The variables of two runs of terms.
@@ -33,13 +27,7 @@ fn variables(f: &[u32], g: &[u32]) -> u32
 fn shared_with(mask: u32, terms: &[u32]) -> u32
     ensures { result ≡ shared mask terms.now }
 {
-    let mut all = mask;
-    let mut i: usize = 0;
-    while i < terms.len() {
-        all = all & terms[i];
-        i += 1;
-    }
-    all
+    terms.iter().fold(mask, |all, &term| all & term)
 }
 
 // The variables that every product of a term of f with a term of g has.
@@ -80,55 +68,51 @@ fn digit_at(variable: u32, place: u32, term: u32) -> u32
 }
 
 // Joins the digit of a variable to the index of each term of a run.
+#[tactic(auto, using(crate::proofs::FewSteps::digits_more, crate::proofs::FewSteps::digits_all))]
 fn add_digits(variable: u32, place: u32, terms: &[u32], out: &mut [u32])
     requires { (variable < 32) × (length terms.now ≡ length out.old) }
     ensures { out.new ≡ with_digits variable place terms.now out.old }
 {
-    let mut i: usize = 0;
-    while i < terms.len() {
-        out[i] = out[i] | digit_at(variable, place, terms[i]);
-        i += 1;
+    for (i, &term) in terms.iter().enumerate() {
+        out[i] |= digit_at(variable, place, term);
     }
 }
 
 // Writes the index of each term of a run within a mask, into an area of zeros.
+#[tactic(auto, using(crate::proofs::FewSteps::no_digits, crate::proofs::FewSteps::digits_without, crate::proofs::FewSteps::indices_more, crate::proofs::SubsetSteps::without_variable, crate::proofs::SubsetSteps::twice_as_many, crate::proofs::SubsetSteps::one_subset, crate::proofs::SubsetSteps::few_subsets))]
 fn indices(mask: u32, terms: &[u32], out: &mut [u32])
     requires { (degree_of mask ≤ 12) × (out.old ≡ replicate (length terms.now) 0) }
     ensures { out.new ≡ map (index_of 32 mask) terms.now }
 {
     let mut place: u32 = 1;
-    let mut i: u32 = 0;
-    while i < 32 {
+    for i in 0..32 {
         if (mask >> i) % 2 == 1 {
             add_digits(i, place, terms, out);
-            place = place + place;
+            place += place;
         }
-        i += 1;
     }
 }
 
 // Toggles the place of the union of an index with each index of a run.
+#[tactic(auto, using(crate::proofs::FewSteps::row_more), unfolding(crate::specs::Few::toggled))]
 fn toggle_row(index: u32, row: &[u32], table: &mut [u8])
     requires { All (λ u. bit_or index u < length table.old) row.now }
     ensures { table.new ≡ toggled table.old (map (bit_or index) row.now) }
 {
-    let mut i: usize = 0;
-    while i < row.len() {
-        let place = (index | row[i]) as usize;
-        table[place] = table[place] ^ 1;
-        i += 1;
+    for &other in row {
+        let place = (index | other) as usize;
+        table[place] ^= 1;
     }
 }
 
 // Toggles the place of the union of each index of f with each index of g.
+#[tactic(auto, using(crate::proofs::FewSteps::rows_more, crate::proofs::FewSteps::rows_all))]
 fn toggle_pairs(f: &[u32], g: &[u32], table: &mut [u8])
     requires { All (λ t. All (λ u. bit_or t u < length table.old) g.now) f.now }
     ensures { table.new ≡ toggled table.old (unions f.now g.now) }
 {
-    let mut i: usize = 0;
-    while i < f.len() {
-        toggle_row(f[i], g, table);
-        i += 1;
+    for &index in f {
+        toggle_row(index, g, table);
     }
 }
 
@@ -147,17 +131,16 @@ fn toggle_products(mask: u32, f: &[u32], g: &[u32], table: &mut [u8])
 }
 
 // Brings the masks whose places in a table are 1 to the front, and answers how many they are.
+#[tactic(auto, using(crate::proofs::FewSteps::chosen_more, crate::proofs::FewSteps::chosen_done))]
 fn choose(masks: &mut [u32], table: &[u8]) -> usize
     requires { (length masks.old ≤ length table.now) × ((i : ℕ) → i < length table.now → get_or table.now i 0 ≤ 1) }
     ensures size { result ≤ length masks.old }
     ensures masks { take result masks.new ≡ marked masks.old table.now }
 {
     let mut count: usize = 0;
-    let mut i: usize = 0;
-    while i < masks.len() {
+    for i in 0..masks.len() {
         masks[count] = masks[i];
         count += table[i] as usize;
-        i += 1;
     }
     count
 }

@@ -16,14 +16,14 @@ fn double(out: &mut [u32], count: usize, joined: u32)
     requires { count + count ≤ length out.old }
     ensures { take (count + count) out.new ≡ take count out.old ++ map (bit_or joined) (take count out.old) }
 {
-    let mut i: usize = 0;
-    while i < count {
-        out[count + i] = joined | out[i];
-        i += 1;
+    let (masks, copies) = out.split_at_mut(count);
+    for (i, &mask) in masks.iter().enumerate() {
+        copies[i] = joined | mask;
     }
 }
 
 // Writes every subset of a mask, and answers how many there are. It is for the crate polynomial, whose areas have room.
+#[tactic(auto, using(crate::proofs::SubsetSteps::one_subset, crate::proofs::SubsetSteps::first_subset, crate::proofs::SubsetSteps::without_variable, crate::proofs::SubsetSteps::twice_as_many, crate::proofs::SubsetSteps::subsets_more))]
 pub fn subsets(mask: u32, out: &mut [u32]) -> usize
     requires { 2 ^ degree_of mask ≤ length out.old }
     ensures count { result ≡ length (subsets_of 32 mask) }
@@ -31,13 +31,11 @@ pub fn subsets(mask: u32, out: &mut [u32]) -> usize
 {
     out[0] = 0;
     let mut count: usize = 1;
-    let mut i: u32 = 0;
-    while i < 32 {
+    for i in 0..32u32 {
         if (mask >> i) % 2 == 1 {
             double(out, count, 1u32 << i);
-            count = count + count;
+            count += count;
         }
-        i += 1;
     }
     count
 }

@@ -8,10 +8,11 @@ ghost use Rattle.term.specs.Term.{degree_of, before, key_of, keys_with};
 pub fn degree(mask: u32) -> u32
     ensures { result ≡ degree_of mask }
 {
-    u32::count_ones(mask)
+    mask.count_ones()
 }
 
 // One number for a term, degree * 2^32 + mask: its descending order is the written order.
+#[tactic(auto, using(crate::specs::OrderLaws::key_small), unfolding(crate::specs::Term::key_of))]
 pub fn key(mask: u32) -> u64
     ensures exact { result ≡ key_of mask }
     ensures small { result < 2 ^ 38 }
@@ -20,6 +21,7 @@ pub fn key(mask: u32) -> u64
 }
 
 // Whether a stands before b in the written order: the higher degree first, at equal degree the larger mask.
+#[tactic(auto, using(crate::specs::OrderLaws::key_before))]
 pub fn precedes(a: u32, b: u32) -> bool
     ensures { result ≡ before a b }
 {
@@ -32,9 +34,7 @@ pub fn keys_with(term: u32, terms: &[u32], out: &mut [u64])
     requires { length terms.now ≡ length out.old }
     ensures { out.new ≡ keys_with term terms.now }
 {
-    let mut i: usize = 0;
-    while i < terms.len() {
-        out[i] = key(term | terms[i]);
-        i += 1;
+    for (i, &other) in terms.iter().enumerate() {
+        out[i] = key(term | other);
     }
 }

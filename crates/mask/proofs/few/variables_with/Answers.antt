@@ -1,15 +1,10 @@
-use mathlib.Core.Path.{sym, ◌∙◌}
-use native.Mathlib.Omega.{arith}
-use Rattle.mask.proofs.FewSteps.{joined_more, joined_all_lem}
+use Rattle.std.proofs.Common.{◌≡◌, ◌∙◌, rules, of_calls}
+use Rattle.std.specs.List.{fold}
+use lib.Bits.{bit_or}
+use Rattle.mask.proofs.FewSteps.{united_fold}
 use Rattle.mask.proofs.few.variables_with.Goals as goal
-
-pub loop-i-preserved : goal.loop-i-preserved
-loop-i-preserved c =
-    let l = c.loop-i in
-    let terms = c.args.terms.now in
-    (omega arith, joined_more l.all terms l.i (omega arith) ∙ l.invariant.1)
 
 pub returns : goal.returns
 returns c =
-    let l = c.loop-i in
-    sym (joined_all_lem l.all c.args.terms.now l.i (omega arith)) ∙ l.invariant.1
+    let e : c.fold.result ≡ fold bit_or c.args.mask c.args.terms.now = search (rules, of_calls) in
+    e ∙ united_fold c.args.mask c.args.terms.now
