@@ -1,4 +1,6 @@
 pub mod Hard
 pub mod HardLaws
+pub mod Held
+pub mod HeldLaws
 pub mod Working
 pub mod WorkingLaws

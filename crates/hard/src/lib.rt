@@ -3,13 +3,104 @@
 
 pub mod form;
 
-ghost use Rattle.std.specs.Prelude.{◌≡◌, List, [], ◌++◌, ◌∷◌, ℕ, ◌≤◌, ◌<◌, T, length, get_or};
-ghost use Rattle.hard.specs.Hard.{is_hard_list};
+ghost use Rattle.std.specs.Prelude.{◌≡◌, List, [], ◌++◌, ◌∷◌, ℕ, ◌≤◌, ◌<◌, T, is_some, IfSome, length, get_or};
+ghost use Rattle.hard.specs.Hard.{is_hard_list, hard_of, hard_image, hard_formed};
+ghost use Rattle.hard.specs.HardLaws.{AllShort};
 ghost use Rattle.hard.specs.Working.{flat, area_in, hard_in, run_of, HardFits};
 
 use configuration::area::part;
+use form::hard_formed;
 use polynomial::area::write;
 use polynomial::front;
+use std::marker::Model;
+
+// At most 16 hard polynomials, each of at most 64 terms, in the order in which they came.
+#[derive(Drop)]
+pub struct HardList {
+    number: usize,
+    counts: [u32; 16],
+    places: [u32; 1024],
+}
+
+impl Model for HardList {
+    ghost use Rattle.std.specs.Prelude.{List, ℕ};
+    ghost use Rattle.hard.specs.Hard.{hard_of};
+    ghost use Rattle.hard.specs.Held.{IsHeld};
+
+    ghost Value = { List (List ℕ) };
+
+    ghost view = { λ h. hard_of (record { number = h.number; counts = h.counts; places = h.places }) };
+
+    ghost invariant = { λ h. IsHeld (record { number = h.number; counts = h.counts; places = h.places }) };
+}
+
+impl HardList {
+    pub fn new() -> HardList
+        ensures { result ≡ [] }
+    {
+        HardList {
+            number: 0,
+            counts: [0; 16],
+            places: [0; 1024],
+        }
+    }
+
+    // The list of what is lent, if that is well formed.
+    pub fn open(variables: u32, number: u32, counts: &[u32], places: &[u32]) -> Option<HardList>
+        ensures formed { is_some result ≡ hard_formed variables (record { number = number; counts = counts.now; places = places.now }) }
+        ensures list { IfSome result (λ H. H ≡ hard_of (record { number = number; counts = counts.now; places = places.now })) }
+        ensures polynomials { IfSome result (λ H. T (is_hard_list variables H)) }
+    {
+        if !hard_formed(variables, number, counts, places) {
+            return None;
+        }
+        let mut hard = HardList::new();
+        hard.number = number as usize;
+        hard.counts.copy_from_slice(counts);
+        hard.places.copy_from_slice(places);
+        Some(hard)
+    }
+
+    pub fn len(&self) -> usize
+        ensures number { result ≡ length self.now }
+        ensures few { result ≤ 16 }
+        ensures short { AllShort self.now }
+    {
+        self.number
+    }
+
+    // The polynomial at a place, from 0.
+    pub fn polynomial(&self, i: usize) -> &[u32]
+        requires { i < length self.now }
+        ensures terms { result.now ≡ get_or self.now i [] }
+        ensures short { length result.now ≤ 64 }
+    {
+        let _number = self.number;
+        let start = 64 * i;
+        let end = start + self.counts[i] as usize;
+        &self.places[start..end]
+    }
+
+    pub fn push(&mut self, f: &[u32])
+        requires { (length self.old < 16) × (length f.now ≤ 64) }
+        ensures { self.new ≡ self.old ++ f.now ∷ [] }
+    {
+        let number = self.number;
+        write(&mut self.places, 64 * number, f);
+        self.counts[number] = f.len() as u32;
+        self.number = number + 1;
+    }
+
+    // Writes the counts and the places back to what is lent.
+    pub fn close(&self, counts: &mut [u32], places: &mut [u32])
+        requires { (length counts.old ≡ 16) × (length places.old ≡ 1024) }
+        ensures counts { counts.new ≡ (hard_image self.now).counts }
+        ensures places { places.new ≡ (hard_image self.now).places }
+    {
+        counts.copy_from_slice(&self.counts);
+        places.copy_from_slice(&self.places);
+    }
+}
 
 // How many hard polynomials there are. It is for the crates `step`, `listing`, `problem` and `checker`, whose runs fit.
 pub fn number_of(hard: &[u32]) -> usize
