@@ -1,33 +1,24 @@
 // The test 'well formed'.
-ghost use Rattle.std.specs.Prelude.{◌≡◌, true, false, ◌&&◌, ◌≤◌, length, drop};
+ghost use Rattle.std.specs.Prelude.{◌≡◌, true, false, ◌&&◌, ◌≤◌, length};
 ghost use Rattle.polynomial.specs.Polynomial.{order_of};
 ghost use Rattle.configuration.specs.Weight.{in_range};
 ghost use Rattle.configuration.specs.Configuration.{line, by_order, line_fits, lines_fit, weights_fit};
 ghost use Rattle.memory.specs.Memory.{read_lines, well_formed, memory_of};
-ghost use Rattle.memory.specs.Places.{used_by, is_unused, all_unused};
+ghost use Rattle.memory.specs.Places.{used_by, all_unused};
 
 use crate::entries::used_by;
 use crate::{Entry, Head};
-use configuration::area::{is_zero, part};
+use configuration::area::is_zero;
 use configuration::form::is_polynomial;
 use configuration::weight::within_limit;
+use polynomial::Ordering;
 use polynomial::order::compare;
-use polynomial::{Ordering, Polynomial};
 
 // Whether a line may be held, with its weight in range.
 fn line_fits(variables: u32, terms: &[u32], weight: i64) -> bool
     ensures { result ≡ (line_fits variables (line terms.now weight) && in_range weight) }
 {
-    if terms.len() == Polynomial::ZERO.count {
-        return false;
-    }
-    if weight == 0 {
-        return false;
-    }
-    if !within_limit(weight) {
-        return false;
-    }
-    is_polynomial(variables, terms)
+    !terms.is_empty() && weight != 0 && within_limit(weight) && is_polynomial(variables, terms)
 }
 
 // Whether a polynomial stands before another.
@@ -41,85 +32,45 @@ fn stands_before(f: &[u32], g: &[u32]) -> bool
     true
 }
 
-// Whether an entry is that of no line.
-fn is_unused(entry: Entry) -> bool
-    ensures { result ≡ is_unused entry }
+// Whether records are those of no line.
+fn are_unused(entries: &[Entry]) -> bool
+    ensures { result ≡ all_unused entries.now }
 {
-    let weight = entry.weight;
-    if weight != 0 {
-        return false;
-    }
-    entry.count == 0
+    entries.iter().all(|entry| *entry == Entry::UNUSED)
 }
 
-// Whether the entries behind the first lines are those of no line.
-fn none_behind(lines: usize, entries: [Entry; 128]) -> bool
-    requires { lines ≤ 128 }
-    ensures { result ≡ all_unused (drop lines entries) }
+// Whether the lines of records may be held, and stand in order.
+fn lines_fit(variables: u32, terms: &[u32], entries: &[Entry]) -> bool
+    requires { used_by entries.now ≤ length terms.now }
+    ensures { let L = read_lines (length entries.now) terms.now entries.now in result ≡ (lines_fit variables L && weights_fit L) }
 {
-    let mut i = lines;
-    while i < 128 {
-        let entry = entries[i];
-        if !is_unused(entry) {
+    let mut last = &terms[..0];
+    let mut rest = terms;
+    for entry in entries {
+        let (f, behind) = rest.split_at(entry.count as usize);
+        if !line_fits(variables, f, entry.weight) {
             return false;
         }
-        i += 1;
-    }
-    true
-}
-
-// Whether the first lines of a table may be held, and stand in order.
-fn lines_fit(variables: u32, lines: usize, terms: &[u32], entries: [Entry; 128]) -> bool
-    requires { (lines ≤ 128) × (used_by entries ≤ length terms.now) }
-    ensures { let L = read_lines lines terms.now entries in result ≡ (lines_fit variables L && weights_fit L) }
-{
-    let mut i: usize = 0;
-    let mut start: usize = 0;
-    while i < lines {
-        let entry = entries[i];
-        let count = entry.count as usize;
-        let weight = entry.weight;
-        let here = part(terms, start, count);
-        if !line_fits(variables, here, weight) {
+        if !last.is_empty() && !stands_before(last, f) {
             return false;
         }
-        i += 1;
-        start += count;
-        if i < lines {
-            let next = entries[i];
-            let size = next.count as usize;
-            if !stands_before(here, part(terms, start, size)) {
-                return false;
-            }
-        }
+        last = f;
+        rest = behind;
     }
     true
 }
 
 // Whether a lent memory, its term area of any length and contents, is well formed.
-pub fn well_formed(head: Head, terms: &[u32], entries: [Entry; 128]) -> bool
-    ensures { result ≡ well_formed (memory_of head terms.now entries) }
+pub fn well_formed(head: Head, terms: &[u32], entries: &[Entry; 128]) -> bool
+    ensures { result ≡ well_formed (memory_of head terms.now entries.now) }
 {
-    if terms.len() != 8192 {
-        return false;
-    }
     let lines = head.lines as usize;
-    if 128 < lines {
-        return false;
-    }
-    let variables = head.variables;
-    if 32 < variables {
-        return false;
-    }
-    if !none_behind(lines, entries) {
-        return false;
-    }
     let used = used_by(entries);
-    if 8192 < used {
-        return false;
-    }
-    if !is_zero(part(terms, used, 8192 - used)) {
-        return false;
-    }
-    lines_fit(variables, lines, terms, entries)
+    terms.len() == 8192
+        && lines <= 128
+        && head.variables <= 32
+        && are_unused(&entries[lines..])
+        && used <= 8192
+        && is_zero(&terms[used..])
+        && lines_fit(head.variables, terms, &entries[..lines])
 }
