@@ -4,8 +4,8 @@ use Rattle.std.specs.Prelude.{◌≡◌, Bool, true, false, cond, not, ◌&&◌,
 use Rattle.term.specs.Term.{before}
 use Rattle.run.specs.Run.{sorted}
 use Rattle.polynomial.specs.Polynomial.{eval, order_of}
-use Rattle.polynomial.specs.declared.Ordering.{Ordering}
-use Rattle.polynomial.specs.declared.Ordering.TheVariants.{Earlier, Same, Later}
+use Rattle.std.specs.declared.cmp.Ordering.{Ordering}
+use Rattle.std.specs.declared.cmp.Ordering.TheVariants.{Less, Equal, Greater}
 use Rattle.configuration.specs.Weight.{in_range, is_zero, is_negative, share}
 
 -- a polynomial and its weight
@@ -22,9 +22,9 @@ some (t ∷ f) = true
 
 -- a choice by the order of two polynomials
 abbrev pub by_order : {A : Type 0} → Ordering → A → A → A → A
-by_order Earlier x y z = x
-by_order Same x y z = y
-by_order Later x y z = z
+by_order Less x y z = x
+by_order Equal x y z = y
+by_order Greater x y z = z
 
 abbrev pub same : List ℕ → List ℕ → Bool
 same f g = by_order (order_of f g) false true false
@@ -69,7 +69,7 @@ negated (line f w ∷ L) = line f (neg_ℤ w) ∷ negated L
 -- a polynomial stands before those of every line
 abbrev pub IsBehind : List ℕ → List Line → Type 0
 IsBehind f [] = Unit {0}
-IsBehind f (line g u ∷ L) = (order_of f g ≡ Earlier) × IsBehind f L
+IsBehind f (line g u ∷ L) = (order_of f g ≡ Less) × IsBehind f L
 
 -- in strict order, neither a polynomial 0 nor a weight 0
 abbrev pub IsInOrder : List Line → Type 0

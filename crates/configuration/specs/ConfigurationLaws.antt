@@ -10,33 +10,33 @@ use Rattle.run.specs.BooleanLaws.{of_true, both, left, right, cond_ind}
 use Rattle.polynomial.specs.Polynomial.{ONE, eval, order_of}
 use Rattle.polynomial.specs.PolynomialLaws.{eval_one}
 use Rattle.polynomial.specs.OrderingLaws.{flip, order_flip, order_self, order_same, order_trans}
-use Rattle.polynomial.specs.declared.Ordering.{Ordering}
-use Rattle.polynomial.specs.declared.Ordering.TheVariants.{Earlier, Same, Later}
+use Rattle.std.specs.declared.cmp.Ordering.{Ordering}
+use Rattle.std.specs.declared.cmp.Ordering.TheVariants.{Less, Equal, Greater}
 use Rattle.configuration.specs.Weight.{is_zero, share}
 use Rattle.configuration.specs.Configuration.{Line, line, some, by_order, same, total, cost, weight, keep, fold, add, add_all, negated, IsBehind, IsInOrder, Every, is_polynomial, line_fits, lines_fit, any_negative}
 use Rattle.configuration.specs.SumLaws.{zero_is, zero_not, share_zero, share_add, share_neg, +ℤ_inj, solve, o, v, ◌⊞◌}
 
 -- ---- cases by the order of two polynomials
-pub order_ind : {A : Type 0} (c : Ordering) {x y z : A} (P : A → Type 0) → (c ≡ Earlier → P x) → (c ≡ Same → P y) → (c ≡ Later → P z) → P (by_order c x y z)
-order_ind Earlier P a b d = a refl
-order_ind Same P a b d = b refl
-order_ind Later P a b d = d refl
+pub order_ind : {A : Type 0} (c : Ordering) {x y z : A} (P : A → Type 0) → (c ≡ Less → P x) → (c ≡ Equal → P y) → (c ≡ Greater → P z) → P (by_order c x y z)
+order_ind Less P a b d = a refl
+order_ind Equal P a b d = b refl
+order_ind Greater P a b d = d refl
 
-pub order_later : (f g : List ℕ) → order_of f g ≡ Later → order_of g f ≡ Earlier
+pub order_later : (f g : List ℕ) → order_of f g ≡ Greater → order_of g f ≡ Less
 order_later f g h = order_flip f g ∙ ap flip h
 
-pub order_earlier : (f g : List ℕ) → order_of f g ≡ Earlier → order_of g f ≡ Later
+pub order_earlier : (f g : List ℕ) → order_of f g ≡ Less → order_of g f ≡ Greater
 order_earlier f g h = order_flip f g ∙ ap flip h
 
-earlier_is : (c : Ordering) → T (by_order c true false false) → c ≡ Earlier
-earlier_is Earlier h = refl
-earlier_is Same h = absurd h
-earlier_is Later h = absurd h
+earlier_is : (c : Ordering) → T (by_order c true false false) → c ≡ Less
+earlier_is Less h = refl
+earlier_is Equal h = absurd h
+earlier_is Greater h = absurd h
 
-same_only : (c : Ordering) → T (by_order c false true false) → c ≡ Same
-same_only Earlier h = absurd h
-same_only Same h = refl
-same_only Later h = absurd h
+same_only : (c : Ordering) → T (by_order c false true false) → c ≡ Equal
+same_only Less h = absurd h
+same_only Equal h = refl
+same_only Greater h = absurd h
 
 pub same_is : (f g : List ℕ) → T (same f g) → f ≡ g
 same_is f g h = order_same f g (same_only (order_of f g) h)
@@ -127,16 +127,16 @@ module _ (P : List ℕ → Type 0) where
   all_every (line f w ∷ C) L c e = all_every C (add f w L) c.1 (add_every f w L c.0 e)
 
 -- standing before every line, as a fact of each
-pub IsBehind-every : (f : List ℕ) (L : List Line) → IsBehind f L → Every (λ g. order_of f g ≡ Earlier) L
+pub IsBehind-every : (f : List ℕ) (L : List Line) → IsBehind f L → Every (λ g. order_of f g ≡ Less) L
 IsBehind-every f [] b = tt
 IsBehind-every f (line g u ∷ L) b = (b.0, IsBehind-every f L b.1)
 
-pub Every-behind : (f : List ℕ) (L : List Line) → Every (λ g. order_of f g ≡ Earlier) L → IsBehind f L
+pub Every-behind : (f : List ℕ) (L : List Line) → Every (λ g. order_of f g ≡ Less) L → IsBehind f L
 Every-behind f [] e = tt
 Every-behind f (line g u ∷ L) e = (e.0, Every-behind f L e.1)
 
 -- ---- order
-pub IsBehind-trans : (f g : List ℕ) (L : List Line) → order_of f g ≡ Earlier → IsBehind g L → IsBehind f L
+pub IsBehind-trans : (f g : List ℕ) (L : List Line) → order_of f g ≡ Less → IsBehind g L → IsBehind f L
 IsBehind-trans f g [] h b = tt
 IsBehind-trans f g (line p u ∷ L) h b = (order_trans f g p h b.0, IsBehind-trans f g L h b.1)
 
@@ -154,7 +154,7 @@ fold_ordered f w (line g u ∷ L) n r = order_ind (order_of f g) IsInOrder
       (
         r.1.0,
         (
-          Every-behind g (fold f w L) (fold_every (λ p. order_of g p ≡ Earlier) f w L (order_later f g k) (IsBehind-every g L r.1.1.0)),
+          Every-behind g (fold f w L) (fold_every (λ p. order_of g p ≡ Less) f w L (order_later f g k) (IsBehind-every g L r.1.1.0)),
           fold_ordered f w L n r.1.1.1,
         ),
       ),
@@ -188,11 +188,11 @@ unique (line f w ∷ L) [] r s h = absurd (zero_not w r.1.0 (sym (weight_head f 
 unique (line f w ∷ L) (line g u ∷ M) r s h = go (order_of f g) refl (λ k. unique L M r.1.1.1 s.1.1.1 k)
   where
     go : (c : Ordering) → order_of f g ≡ c → (((p : List ℕ) → T (some p) → weight L p ≡ weight M p) → L ≡ M) → line f w ∷ L ≡ line g u ∷ M
-    go Earlier k rest = absurd (zero_not w r.1.0 (sym (weight_head f w L r.1.1.0) ∙ h f r.0
+    go Less k rest = absurd (zero_not w r.1.0 (sym (weight_head f w L r.1.1.0) ∙ h f r.0
         ∙ weight_behind f (line g u ∷ M) (k, IsBehind-trans f g M k s.1.1.0)))
-    go Later k rest = absurd (zero_not u s.1.0 (sym (weight_head g u M s.1.1.0) ∙ sym (h g s.0)
+    go Greater k rest = absurd (zero_not u s.1.0 (sym (weight_head g u M s.1.1.0) ∙ sym (h g s.0)
         ∙ weight_behind g (line f w ∷ L) (order_later f g k, IsBehind-trans g f L (order_later f g k) r.1.1.0)))
-    go Same k rest =
+    go Equal k rest =
         let e : f ≡ g = order_same f g k in
         let d : w ≡ u = sym (weight_head f w L r.1.1.0) ∙ h f r.0 ∙ ap (weight (line g u ∷ M)) e ∙ weight_head g u M s.1.1.0 in
         ap₂ (λ (x : Line) (y : List Line). x ∷ y) (ap₂ line e d)
@@ -251,7 +251,7 @@ module _ (n : ℕ) where
   fit_tail (line f w) (line g u ∷ L) h = right (by_order (order_of f g) true false false) (lines_fit n (line g u ∷ L))
       (right (line_fits n (line f w)) (by_order (order_of f g) true false false && lines_fit n (line g u ∷ L)) h)
 
-  fit_next : (f g : List ℕ) (w u : ℤ) (L : List Line) → T (lines_fit n (line f w ∷ line g u ∷ L)) → order_of f g ≡ Earlier
+  fit_next : (f g : List ℕ) (w u : ℤ) (L : List Line) → T (lines_fit n (line f w ∷ line g u ∷ L)) → order_of f g ≡ Less
   unfolding lines_fit
   fit_next f g w u L h = earlier_is (order_of f g) (left (by_order (order_of f g) true false false) (lines_fit n (line g u ∷ L))
       (right (line_fits n (line f w)) (by_order (order_of f g) true false false && lines_fit n (line g u ∷ L)) h))

@@ -15,8 +15,8 @@ use Rattle.std.proofs.Math.Seq.{drop-length}
 use Rattle.run.specs.BooleanLaws.{bool_ext, is_false, of_true, both, left, right}
 use Rattle.polynomial.specs.Polynomial.{order_of}
 use Rattle.polynomial.specs.OrderingLaws.{order_self, order_same, order_trans}
-use Rattle.polynomial.specs.declared.Ordering.{Ordering}
-use Rattle.polynomial.specs.declared.Ordering.TheVariants.{Earlier, Same, Later}
+use Rattle.std.specs.declared.cmp.Ordering.{Ordering}
+use Rattle.std.specs.declared.cmp.Ordering.TheVariants.{Less, Equal, Greater}
 use Rattle.configuration.specs.Weight.{in_range, is_zero, share}
 use Rattle.configuration.specs.Configuration.{Line, line, some, by_order, same, total, weight, keep, fold, add, add_all, IsBehind, IsInOrder, place_of, weights_fit}
 use Rattle.configuration.specs.ConfigurationLaws.{order_ind, order_later, order_earlier, same_is, weight-add, weight_all, IsBehind-trans, add_ordered, all_ordered, weight_behind, weight_head}
@@ -40,9 +40,9 @@ fold_at f w (line g u ∷ L) = go (order_of f g) refl (fold_at f w L)
   where
     go : (c : Ordering) → order_of f g ≡ c → fold f w L ≡ take (place_of f L) L ++ fold f w (drop (place_of f L) L)
         → fold f w (line g u ∷ L) ≡ take (place_of f (line g u ∷ L)) (line g u ∷ L) ++ fold f w (drop (place_of f (line g u ∷ L)) (line g u ∷ L))
-    go Earlier e r = rw (e, e)
-    go Same e r = rw (e, e)
-    go Later e r = rw e (ap (λ (M : List Line). line g u ∷ M) r)
+    go Less e r = rw (e, e)
+    go Equal e r = rw (e, e)
+    go Greater e r = rw e (ap (λ (M : List Line). line g u ∷ M) r)
 
 weight_at : (f : List ℕ) (L : List Line) → weight L f ≡ weight (drop (place_of f L) L) f
 unfolding place_of total
@@ -79,7 +79,7 @@ weight_held f L u d r l e = weight_at f L ∙ ap (λ (M : List Line). weight M f
 
 -- ---- no line is of f: k is the end, or line k is of a polynomial g that f stands before
 abbrev pub IsFresh : List ℕ → List Line → List ℕ → ℤ → Line → Type 0
-IsFresh f L g u d = (place_of f L ≡ length L) ⊎ ((place_of f L < length L) × ((get_or L (place_of f L) d ≡ line g u) × (order_of f g ≡ Earlier)))
+IsFresh f L g u d = (place_of f L ≡ length L) ⊎ ((place_of f L < length L) × ((get_or L (place_of f L) d ≡ line g u) × (order_of f g ≡ Less)))
 
 module _ (f : List ℕ) (L : List Line) (g : List ℕ) (u : ℤ) (d : Line) where
   fold_fresh : (w : ℤ) → IsFresh f L g u d → fold f w (drop (place_of f L) L) ≡ keep f w (drop (place_of f L) L)
@@ -101,35 +101,35 @@ pub weight_new : (f : List ℕ) (L : List Line) (g : List ℕ) (u : ℤ) (d : Li
 weight_new f L g u d r q = weight_at f L ∙ weight_fresh f L g u d r q
 
 -- ---- a search by halving: line i is of g
-IsBehind-at : (f g : List ℕ) (u : ℤ) (d : Line) (i : ℕ) (L : List Line) → IsBehind f L → i < length L → get_or L i d ≡ line g u → order_of f g ≡ Earlier
+IsBehind-at : (f g : List ℕ) (u : ℤ) (d : Line) (i : ℕ) (L : List Line) → IsBehind f L → i < length L → get_or L i d ≡ line g u → order_of f g ≡ Less
 IsBehind-at f g u d i [] b l e = let z : ⊥ = omega arith in absurd z
 IsBehind-at f g u d zero (line p w ∷ L) b l e = cc b.0
 IsBehind-at f g u d (suc i) (line p w ∷ L) b l e = IsBehind-at f g u d i L b.1 (le_of_suc-le-suc l) e
 
 module _ (f g : List ℕ) (u : ℤ) (d : Line) where
-  pub earlier_right : (i : ℕ) (L : List Line) → IsInOrder L → i < length L → get_or L i d ≡ line g u → order_of f g ≡ Later → i < place_of f L
+  pub earlier_right : (i : ℕ) (L : List Line) → IsInOrder L → i < length L → get_or L i d ≡ line g u → order_of f g ≡ Greater → i < place_of f L
   unfolding place_of
   earlier_right i [] r l e h = let z : ⊥ = omega arith in absurd z
-  earlier_right zero (line p w ∷ L) r l e h = let k : order_of f p ≡ Later = cc in rw k (omega arith)
+  earlier_right zero (line p w ∷ L) r l e h = let k : order_of f p ≡ Greater = cc in rw k (omega arith)
   earlier_right (suc i) (line p w ∷ L) r l e h =
       let m : i < length L = le_of_suc-le-suc l in
-      let k : order_of f p ≡ Later = order_earlier p f (order_trans p g f (IsBehind-at p g u d i L r.1.1.0 m e) (order_later f g h)) in
+      let k : order_of f p ≡ Greater = order_earlier p f (order_trans p g f (IsBehind-at p g u d i L r.1.1.0 m e) (order_later f g h)) in
       rw k (omega (arith, earlier_right i L r.1.1.1 m e h))
 
-  pub earlier_left : (i : ℕ) (L : List Line) → i < length L → get_or L i d ≡ line g u → order_of f g ≡ Earlier → place_of f L ≤ i
+  pub earlier_left : (i : ℕ) (L : List Line) → i < length L → get_or L i d ≡ line g u → order_of f g ≡ Less → place_of f L ≤ i
   unfolding place_of
   earlier_left i [] l e h = let z : ⊥ = omega arith in absurd z
-  earlier_left zero (line p w ∷ L) l e h = let k : order_of f p ≡ Earlier = cc in rw k (omega arith)
+  earlier_left zero (line p w ∷ L) l e h = let k : order_of f p ≡ Less = cc in rw k (omega arith)
   earlier_left (suc i) (line p w ∷ L) l e h = order_ind (order_of f p) (λ (k : ℕ). k ≤ suc i)
       (λ k. omega arith) (λ k. omega arith) (λ k. omega (arith, earlier_left i L (le_of_suc-le-suc l) e h))
 
-  pub same_here : (i : ℕ) (L : List Line) → IsInOrder L → i < length L → get_or L i d ≡ line g u → order_of f g ≡ Same → place_of f L ≡ i
+  pub same_here : (i : ℕ) (L : List Line) → IsInOrder L → i < length L → get_or L i d ≡ line g u → order_of f g ≡ Equal → place_of f L ≡ i
   unfolding place_of
   same_here i [] r l e h = let z : ⊥ = omega arith in absurd z
-  same_here zero (line p w ∷ L) r l e h = let k : order_of f p ≡ Same = cc in rw k
+  same_here zero (line p w ∷ L) r l e h = let k : order_of f p ≡ Equal = cc in rw k
   same_here (suc i) (line p w ∷ L) r l e h =
       let m : i < length L = le_of_suc-le-suc l in
-      let k : order_of f p ≡ Later = order_earlier p f (rw (order_same f g h) (IsBehind-at p g u d i L r.1.1.0 m e)) in
+      let k : order_of f p ≡ Greater = order_earlier p f (rw (order_same f g h) (IsBehind-at p g u d i L r.1.1.0 m e)) in
       rw k (ap suc (same_here i L r.1.1.1 m e h))
 
 -- ---- the number of lines
@@ -159,9 +159,9 @@ fold_grown f w (line g u ∷ L) r = go (order_of f g) refl (fold_grown f w L r.1
         → length (fold f w L) + to_nat (not (is_zero (weight L f))) ≡ length L + to_nat (not (is_zero (weight L f +ℤ w)))
         → length (fold f w (line g u ∷ L)) + to_nat (not (is_zero (weight (line g u ∷ L) f)))
         ≡ length (line g u ∷ L) + to_nat (not (is_zero (weight (line g u ∷ L) f +ℤ w)))
-    go Earlier e k = rw (weight_behind f (line g u ∷ L) (e, IsBehind-trans f g L e r.1.1.0), e, +ℤ_idl w) (omega (arith, length-keep f w (line g u ∷ L)))
-    go Same e k = rw (order_same f g e, weight_head g u L r.1.1.0, order_self g, is_false (is_zero u) (T_not (is_zero u) r.1.0)) (omega (arith, length-keep g (u +ℤ w) L))
-    go Later e k = rw (weight_skip f g u L (ap (λ (c : Ordering). by_order c false true false) e), e) (omega arith)
+    go Less e k = rw (weight_behind f (line g u ∷ L) (e, IsBehind-trans f g L e r.1.1.0), e, +ℤ_idl w) (omega (arith, length-keep f w (line g u ∷ L)))
+    go Equal e k = rw (order_same f g e, weight_head g u L r.1.1.0, order_self g, is_false (is_zero u) (T_not (is_zero u) r.1.0)) (omega (arith, length-keep g (u +ℤ w) L))
+    go Greater e k = rw (weight_skip f g u L (ap (λ (c : Ordering). by_order c false true false) e), e) (omega arith)
 
 pub grown : (f : List ℕ) (w : ℤ) (L : List Line) → T (some f) → IsInOrder L
     → length (add f w L) + to_nat (not (is_zero (weight L f))) ≡ length L + to_nat (not (is_zero (weight L f +ℤ w)))
@@ -171,7 +171,7 @@ grown f w L n r = rw (add-fold f w L n) (fold_grown f w L r)
 pub weight_other : (p f : List ℕ) (w : ℤ) (L : List Line) → T (some p) → same p f ≡ false → weight (add f w L) p ≡ weight L p
 weight_other p f w L n e = weight-add p n f w L ∙ ap (λ (b : Bool). weight L p +ℤ share b w) e ∙ +ℤ_idr (weight L p)
 
-pub not_same : (f g : List ℕ) → order_of f g ≡ Earlier → same g f ≡ false
+pub not_same : (f g : List ℕ) → order_of f g ≡ Less → same g f ≡ false
 not_same f g e = rw (order_earlier f g e)
 
 -- how many polynomials of N are held by L, and how many would be held if each were folded in alone
@@ -217,9 +217,9 @@ module _ (R : List ℕ → ℤ → Bool) (none : (p : List ℕ) → T (R p (pos 
   lines_weights (line f w ∷ L) r h p = go (order_of p f) refl (lines_weights L r.1.1.1 (right (R f w) (every_line R L) h) p)
     where
       go : (c : Ordering) → order_of p f ≡ c → T (R p (weight L p)) → T (R p (weight (line f w ∷ L) p))
-      go Earlier e k = rw (weight_behind p (line f w ∷ L) (e, IsBehind-trans p f L e r.1.1.0)) (none p)
-      go Same e k = rw (order_same p f e, weight_head f w L r.1.1.0) (left (R f w) (every_line R L) h)
-      go Later e k = rw (weight_skip p f w L (not_same f p (order_later p f e))) k
+      go Less e k = rw (weight_behind p (line f w ∷ L) (e, IsBehind-trans p f L e r.1.1.0)) (none p)
+      go Equal e k = rw (order_same p f e, weight_head f w L r.1.1.0) (left (R f w) (every_line R L) h)
+      go Greater e k = rw (weight_skip p f w L (not_same f p (order_later p f e))) k
 
   weights_lines : (L : List Line) → IsInOrder L → ((p : List ℕ) → T (some p) → T (R p (weight L p))) → T (every_line R L)
   unfolding every_line

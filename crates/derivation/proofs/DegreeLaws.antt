@@ -14,7 +14,7 @@ use Rattle.term.specs.Term.{degree_of, before}
 use Rattle.term.specs.OrderLaws.{Before, before_cases}
 use Rattle.polynomial.specs.Polynomial.{order_of, IsOrdered, RunBelow}
 use Rattle.polynomial.specs.OrderingLaws.{lead}
-use Rattle.polynomial.specs.declared.Ordering.TheVariants.{Earlier}
+use Rattle.std.specs.declared.cmp.Ordering.TheVariants.{Less}
 use Rattle.configuration.specs.Configuration.{Line, line, polynomial_of, IsBehind, IsInOrder, Every, is_polynomial, is_configuration}
 use Rattle.configuration.specs.ConfigurationLaws.{fit_every}
 use Rattle.configuration.specs.LineLaws.{polynomial_run, Every-map, configuration_parts}
@@ -122,12 +122,12 @@ head_degree : (t : ℕ) (f : List ℕ) → IsOrdered (t ∷ f) → largest degre
 unfolding largest
 head_degree t f h = omega (arith, After-degree t f h.0)
 
-earlier_degree : (t : ℕ) (f g : List ℕ) → IsOrdered g → order_of (t ∷ f) g ≡ Earlier → largest degree_of g ≤ degree_of t
+earlier_degree : (t : ℕ) (f g : List ℕ) → IsOrdered g → order_of (t ∷ f) g ≡ Less → largest degree_of g ≤ degree_of t
 unfolding largest
 earlier_degree t f [] h e = omega arith
 earlier_degree t f (u ∷ g) h e = omega (arith, head_degree u g h, go (lead t u f g e))
   where
-    go : T (before t u) ⊎ ((t ≡ u) × (order_of f g ≡ Earlier)) → degree_of u ≤ degree_of t
+    go : T (before t u) ⊎ ((t ≡ u) × (order_of f g ≡ Less)) → degree_of u ≤ degree_of t
     go (inl b) = before_degree t u b
     go (inr d) = omega (arith, ap degree_of d.0)
 

@@ -8,7 +8,7 @@ use lib.IntN.{ℤ}
 use lib.ListN.{length, get_or, take}
 use lib.Seq.{take-suc, length-take-le}
 use Rattle.polynomial.specs.Polynomial.{order_of}
-use Rattle.polynomial.specs.declared.Ordering.TheVariants.{Earlier}
+use Rattle.std.specs.declared.cmp.Ordering.TheVariants.{Less}
 use Rattle.configuration.specs.Configuration.{Line, line, IsInOrder}
 use Rattle.configuration.specs.ConfigurationLaws.{IsBehind-every, Every-behind}
 use Rattle.configuration.specs.LineLaws.{IsShort, Every-take}
@@ -19,7 +19,7 @@ use Rattle.table.proofs.Searches.{none}
 ordered_take : (k : ℕ) (L : List Line) → IsInOrder L → IsInOrder (take k L)
 ordered_take zero L r = tt
 ordered_take (suc k) [] r = tt
-ordered_take (suc k) (line g u ∷ L) r = (r.0, (r.1.0, (Every-behind g (take k L) (Every-take (λ p. order_of g p ≡ Earlier) k L (IsBehind-every g L r.1.1.0)), ordered_take k L r.1.1.1)))
+ordered_take (suc k) (line g u ∷ L) r = (r.0, (r.1.0, (Every-behind g (take k L) (Every-take (λ p. order_of g p ≡ Less) k L (IsBehind-every g L r.1.1.0)), ordered_take k L r.1.1.1)))
 
 abbrev polynomial_in : Line → List ℕ
 polynomial_in (line f w) = f

@@ -11,25 +11,29 @@ use crate::{Entry, Head};
 use configuration::area::is_zero;
 use configuration::form::is_polynomial;
 use configuration::weight::within_limit;
-use polynomial::Ordering;
 use polynomial::order::compare;
 
 // Whether a line may be held, with its weight in range.
 fn line_fits(variables: u32, terms: &[u32], weight: i64) -> bool
     ensures { result ≡ (line_fits variables (line terms.now weight) && in_range weight) }
 {
-    !terms.is_empty() && weight != 0 && within_limit(weight) && is_polynomial(variables, terms)
+    if terms.is_empty() {
+        return false;
+    }
+    if weight == 0 {
+        return false;
+    }
+    if !within_limit(weight) {
+        return false;
+    }
+    is_polynomial(variables, terms)
 }
 
 // Whether a polynomial stands before another.
 fn stands_before(f: &[u32], g: &[u32]) -> bool
     ensures { result ≡ by_order (order_of f.now g.now) true false false }
 {
-    let order = compare(f, g);
-    let Ordering::Earlier = order else {
-        return false;
-    };
-    true
+    compare(f, g).is_lt()
 }
 
 // Whether records are those of no line.
@@ -51,8 +55,10 @@ fn lines_fit(variables: u32, terms: &[u32], entries: &[Entry]) -> bool
         if !line_fits(variables, f, entry.weight) {
             return false;
         }
-        if !last.is_empty() && !stands_before(last, f) {
-            return false;
+        if !last.is_empty() {
+            if !stands_before(last, f) {
+                return false;
+            }
         }
         last = f;
         rest = behind;
@@ -64,13 +70,25 @@ fn lines_fit(variables: u32, terms: &[u32], entries: &[Entry]) -> bool
 pub fn well_formed(head: Head, terms: &[u32], entries: &[Entry; 128]) -> bool
     ensures { result ≡ well_formed (memory_of head terms.now entries.now) }
 {
+    if terms.len() != 8192 {
+        return false;
+    }
     let lines = head.lines as usize;
+    if 128 < lines {
+        return false;
+    }
+    if 32 < head.variables {
+        return false;
+    }
+    if !are_unused(&entries[lines..]) {
+        return false;
+    }
     let used = used_by(entries);
-    terms.len() == 8192
-        && lines <= 128
-        && head.variables <= 32
-        && are_unused(&entries[lines..])
-        && used <= 8192
-        && is_zero(&terms[used..])
-        && lines_fit(head.variables, terms, &entries[..lines])
+    if 8192 < used {
+        return false;
+    }
+    if !is_zero(&terms[used..]) {
+        return false;
+    }
+    lines_fit(head.variables, terms, &entries[..lines])
 }

@@ -4,7 +4,7 @@ ghost use Rattle.term.specs.Term.{before};
 ghost use Rattle.run.specs.Run.{sorted};
 ghost use Rattle.polynomial.specs.Polynomial.{order_of};
 
-use crate::Ordering;
+use std::cmp::Ordering;
 
 // The lesser of two numbers.
 pub fn least(a: usize, b: usize) -> usize
@@ -13,8 +13,8 @@ pub fn least(a: usize, b: usize) -> usize
     if a < b { a } else { b }
 }
 
-// Where one run of terms stands beside another: at the first place where they differ the one with the earlier
-// term is first, and of two that do not differ the shorter.
+// Where one run of terms stands beside another, which is less if it stands earlier: at the first place where they differ the one with
+// the earlier term is first, and of two that do not differ the shorter.
 pub fn compare(f: &[u32], g: &[u32]) -> Ordering
     ensures { result ≡ order_of f.now g.now }
 {
@@ -25,19 +25,19 @@ pub fn compare(f: &[u32], g: &[u32]) -> Ordering
         let b = g[i];
         if a != b {
             if term::precedes(a, b) {
-                return Ordering::Earlier;
+                return Ordering::Less;
             }
-            return Ordering::Later;
+            return Ordering::Greater;
         }
         i += 1;
     }
     if i < g.len() {
-        return Ordering::Earlier;
+        return Ordering::Less;
     }
     if i < f.len() {
-        return Ordering::Later;
+        return Ordering::Greater;
     }
-    Ordering::Same
+    Ordering::Equal
 }
 
 // Whether a run of terms is in strict written order.

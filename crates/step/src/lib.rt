@@ -18,10 +18,11 @@ use calculus::{Mode, Rule};
 use configuration::form::is_below;
 use hard::number_of;
 use plan::plan_of;
+use polynomial::Polynomial;
 use polynomial::order::{compare, in_order};
-use polynomial::{Ordering, Polynomial};
 use refusal::{Objection, Reason};
 use replacement::replace;
+use std::cmp::Ordering;
 use table::lines::{none_negative, weight_of};
 
 // What a step is asked to do: the rule, in which mode, and the amount that it moves.
@@ -99,7 +100,7 @@ fn is_there(
         Rule::Sum => {
             let side = compare(f, g);
             match side {
-                Ordering::Same => {
+                Ordering::Equal => {
                     let twice = amount + amount;
                     is_held(lines, order, terms, weights, counts, f, twice)
                 }

@@ -15,7 +15,7 @@ use Rattle.term.specs.Term.{key_of}
 use Rattle.term.specs.OrderLaws.{key_before, key_small}
 use Rattle.polynomial.specs.Polynomial.{order_of}
 use Rattle.polynomial.specs.OrderingLaws.{order_first, order_trans, order_irrefl, order_same}
-use Rattle.polynomial.specs.declared.Ordering.TheVariants.{Earlier, Same, Later}
+use Rattle.std.specs.declared.cmp.Ordering.TheVariants.{Less, Equal, Greater}
 use Rattle.configuration.specs.Configuration.{Line, line, some, IsBehind, IsInOrder, place_of, is_held}
 use Rattle.configuration.specs.ConfigurationLaws.{order_earlier}
 use Rattle.configuration.specs.PlaceLaws.{place_le, earlier_left, earlier_right, same_here}
@@ -32,7 +32,7 @@ pub record IsBetween (f : List ℕ) (L : List Line) (low high : ℕ) : Type 0 wh
   pub from : low ≤ place_of f L
   pub to : place_of f L ≤ high
   pub in_table : high ≤ length L
-  pub behind : (high ≡ length L) ⊎ ((high < length L) × ((g : List ℕ) × ((u : ℤ) × ((get_or L high none ≡ line g u) × (order_of f g ≡ Earlier)))))
+  pub behind : (high ≡ length L) ⊎ ((high < length L) × ((g : List ℕ) × ((u : ℤ) × ((get_or L high none ≡ line g u) × (order_of f g ≡ Less)))))
 
 module _ (f : List ℕ) (L : List Line) where
   pub everywhere : IsBetween f L 0 (length L)
@@ -42,7 +42,7 @@ module _ (f : List ℕ) (L : List Line) where
     inside : i < length L
     inside = omega (arith, b.in_table)
 
-    pub lower : order_of f g ≡ Earlier → IsBetween f L low i
+    pub lower : order_of f g ≡ Less → IsBetween f L low i
     lower o = record {
       from = b.from;
       to = earlier_left f g u none i L inside e o;
@@ -50,10 +50,10 @@ module _ (f : List ℕ) (L : List Line) where
       behind = inr (inside, (g, (u, (e, o))));
     }
 
-    pub upper : IsInOrder L → order_of f g ≡ Later → IsBetween f L (i + 1) high
+    pub upper : IsInOrder L → order_of f g ≡ Greater → IsBetween f L (i + 1) high
     upper r o = record { from = omega (arith, earlier_right f g u none i L r inside e o); to = b.to; in_table = b.in_table; behind = b.behind }
 
-    pub found : IsInOrder L → order_of f g ≡ Same → (i ≡ place_of f L) × (true ≡ is_held f L)
+    pub found : IsInOrder L → order_of f g ≡ Equal → (i ≡ place_of f L) × (true ≡ is_held f L)
     found r o =
         let p : place_of f L ≡ i = same_here f g u none i L r inside e o in
         (sym p, sym (held f none u L (rw p inside) (rw (p, order_same f g o) e)))
@@ -64,7 +64,7 @@ module _ (f : List ℕ) (L : List Line) where
       q : place_of f L ≡ high
       q = omega (arith, b.from, b.to)
 
-      go : (high ≡ length L) ⊎ ((high < length L) × ((g : List ℕ) × ((u : ℤ) × ((get_or L high none ≡ line g u) × (order_of f g ≡ Earlier))))) → is_held f L ≡ false
+      go : (high ≡ length L) ⊎ ((high < length L) × ((g : List ℕ) × ((u : ℤ) × ((get_or L high none ≡ line g u) × (order_of f g ≡ Less))))) → is_held f L ≡ false
       go (inl e) = not_held f none [] (pos 0) L (inl (q ∙ e))
       go (inr e) = not_held f none e.1.0 e.1.1.0 L (inr (rw q e.0, (rw q e.1.1.1.0, e.1.1.1.1)))
 
@@ -91,13 +91,13 @@ first_below b zero k l p h = p
 first_below b (suc n) k l p h = rw (get_or-take (suc n) (drop k l) 0 0 (omega arith), get_or-drop k l 0 0) (h (k + 0))
 
 -- one with a higher key stands earlier
-pub key_earlier : (f g : List ℕ) → T (some f) → T (some g) → get_or f 0 0 < 2 ^ 32 → get_or g 0 0 < 2 ^ 32 → first_key g < first_key f → order_of f g ≡ Earlier
+pub key_earlier : (f g : List ℕ) → T (some f) → T (some g) → get_or f 0 0 < 2 ^ 32 → get_or g 0 0 < 2 ^ 32 → first_key g < first_key f → order_of f g ≡ Less
 key_earlier [] g m n s t h = absurd m
 key_earlier (x ∷ f) [] m n s t h = absurd n
 key_earlier (x ∷ f) (y ∷ g) m n s t h = order_first x y f g (rw (key_before x y s t) (lt→ltb (key_of y) (key_of x) h))
 
 -- so the keys of polynomials in order fall
-key_falls : (f g : List ℕ) → T (some f) → T (some g) → get_or f 0 0 < 2 ^ 32 → get_or g 0 0 < 2 ^ 32 → order_of f g ≡ Earlier → first_key g ≤ first_key f
+key_falls : (f g : List ℕ) → T (some f) → T (some g) → get_or f 0 0 < 2 ^ 32 → get_or g 0 0 < 2 ^ 32 → order_of f g ≡ Less → first_key g ≤ first_key f
 key_falls f g m n s t o = go (dec_lt (first_key f) (first_key g))
   where
     go : Dec (first_key f < first_key g) → first_key g ≤ first_key f
@@ -109,7 +109,7 @@ module _ (t : Table) (small : (j : ℕ) → get_or t.terms j 0 < 2 ^ 32) where
   first_in : (r : ℕ) → get_or (terms_in t r) 0 0 < 2 ^ 32
   first_in r = first_below (2 ^ 32) (get_or t.counts r 0) (64 * r) t.terms (omega arith) small
 
-  IsBehind-at : (f : List ℕ) (i : ℕ) (is : List ℕ) → IsBehind f (lines_at t is) → i < length is → order_of f (terms_in t (row_of (get_or is i 0))) ≡ Earlier
+  IsBehind-at : (f : List ℕ) (i : ℕ) (is : List ℕ) → IsBehind f (lines_at t is) → i < length is → order_of f (terms_in t (row_of (get_or is i 0))) ≡ Less
   IsBehind-at f i [] b h = absurd (not-suc-le-zero h)
   IsBehind-at f zero (e ∷ is) b h = b.0
   IsBehind-at f (suc i) (e ∷ is) b h = IsBehind-at f i is b.1 (le_of_suc-le-suc h)
@@ -141,7 +141,7 @@ module _ (t : Table) (small : (j : ℕ) → get_or t.terms j 0 < 2 ^ 32) where
       front-le : front ≤ t.lines
       front-le = omega (arith, ahead-le (first_key f) (take t.lines t.order), lines_long q)
 
-      front_later : (i : ℕ) → i < front → order_of f (terms_in t (row_of (get_or t.order i 0))) ≡ Later
+      front_later : (i : ℕ) → i < front → order_of f (terms_in t (row_of (get_or t.order i 0))) ≡ Greater
       front_later i l =
           let m : i < t.lines = omega (arith, front-le) in
           let r : ℕ = row_of (get_or t.order i 0) in

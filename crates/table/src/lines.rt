@@ -7,9 +7,10 @@ ghost use Rattle.table.specs.Rows.{table_at, row_of, key_in, lines_of, capacity_
 
 use crate::order::{ahead, insert_entry, remove_entry, row_at};
 use configuration::weight::is_negative;
+use polynomial::Polynomial;
 use polynomial::area::write;
 use polynomial::order::{compare, least};
-use polynomial::{Ordering, Polynomial};
+use std::cmp::Ordering;
 use term::key;
 
 // Where a polynomial stands, or would stand, among the lines, and whether it is held.
@@ -38,7 +39,7 @@ fn order_at(entry: u64, key: u64, terms: &[u32], counts: &[u32], f: &[u32]) -> O
     ensures { let i = row_of entry in result ≡ order_of f.now (take (get_or counts.now i 0) (drop (64 * i) terms.now)) }
 {
     if entry / 128 < key {
-        return Ordering::Earlier;
+        return Ordering::Less;
     }
     let here = (entry % 128) as usize;
     let count = counts[here] as usize;
@@ -71,16 +72,16 @@ fn find(
     while low < high {
         let side = order_at(order[middle], first, terms, counts, f);
         match side {
-            Ordering::Earlier => {
+            Ordering::Less => {
                 high = middle;
             }
-            Ordering::Same => {
+            Ordering::Equal => {
                 return Place {
                     at: middle,
                     held: true,
                 };
             }
-            Ordering::Later => {
+            Ordering::Greater => {
                 low = middle + 1;
             }
         }

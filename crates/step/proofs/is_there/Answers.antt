@@ -9,9 +9,9 @@ use lib.IntN.{◌+ℤ◌}
 use denote.Enum.Declared.{tag_of}
 use mir.Facts.{to_z-of_z}
 use Rattle.polynomial.specs.Polynomial.{order_of}
-use Rattle.polynomial.specs.declared.Ordering.{Ordering}
-use Rattle.polynomial.specs.declared.Ordering.TheVariants.{Earlier, Same, Later}
-use Rattle.polynomial.specs.contracts.Ordering.{the_type}
+use Rattle.std.specs.declared.cmp.Ordering.{Ordering}
+use Rattle.std.specs.declared.cmp.Ordering.TheVariants.{Less, Equal, Greater}
+use Rattle.std.specs.contracts.cmp.Ordering.{the_type}
 use Rattle.configuration.specs.Configuration.{Line}
 use Rattle.table.specs.Rows.{lines_of}
 use Rattle.calculus.specs.Calculus.{premises, there}
@@ -31,11 +31,11 @@ by_rule : (s : goal.Start) → {r : Rule} → s.args.rule ≡ r → there (held 
 by_rule s e = ap (λ (r : Rule). there (held s) (premises r s.args.f.now s.args.g.now s.args.amount)) (sym e)
 
 -- an order of the other two tags
-not_same : (o : Ordering) → OneOf (0 ∷ 2 ∷ []) (tag_of the_type o) → o ≡ Same → ⊥
-not_same Earlier k h = let z : ◌≡◌ {A = ℕ} 0 1 = cc in omega arith
-not_same Later k h = let z : ◌≡◌ {A = ℕ} 0 1 = cc in omega arith
-not_same Same (inl e) h = omega arith
-not_same Same (inr e) h = omega arith
+not_same : (o : Ordering) → OneOf (0 ∷ 2 ∷ []) (tag_of the_type o) → o ≡ Equal → ⊥
+not_same Less k h = let z : ◌≡◌ {A = ℕ} 0 1 = cc in omega arith
+not_same Greater k h = let z : ◌≡◌ {A = ℕ} 0 1 = cc in omega arith
+not_same Equal (inl e) h = omega arith
+not_same Equal (inr e) h = omega arith
 
 -- of two polynomials that differ, each is asked for once
 each : (c : goal.In_default) → (
@@ -63,12 +63,12 @@ returns-in-Hard c =
     let e : c.is_held-in-Hard.result ≡ enough (held (goal.at.returns-in-Hard c).Start) c.args.f.now c.args.amount = rw (to_z-of_z c.ranges.amount) at c.is_held-in-Hard.ensures in
     e ∙ asked_once (held (goal.at.returns-in-Hard c).Start) c.args.f.now c.args.g.now c.args.amount ∙ by_rule (goal.at.returns-in-Hard c).Start c.in-Hard.is
 
-pub returns-in-Same : goal.returns-in-Same
-returns-in-Same c =
-    let e : c.is_held-in-Same.result ≡ enough (held (goal.at.returns-in-Same c).Start) c.args.f.now (c.args.amount +ℤ c.args.amount) =
-    rw (to_z-of_z c.ranges.amount, to_z-of_z (doubled_fits c.args.amount c.requires.1)) at c.is_held-in-Same.ensures in
-    let o : order_of c.args.f.now c.args.g.now ≡ Same = sym c.compare-side.ensures ∙ c.in-Same.is in
-    e ∙ asked_twice (held (goal.at.returns-in-Same c).Start) c.args.f.now c.args.g.now c.args.amount o ∙ by_rule (goal.at.returns-in-Same c).Start c.in-Sum.is
+pub returns-in-Equal : goal.returns-in-Equal
+returns-in-Equal c =
+    let e : c.is_held-in-Equal.result ≡ enough (held (goal.at.returns-in-Equal c).Start) c.args.f.now (c.args.amount +ℤ c.args.amount) =
+    rw (to_z-of_z c.ranges.amount, to_z-of_z (doubled_fits c.args.amount c.requires.1)) at c.is_held-in-Equal.ensures in
+    let o : order_of c.args.f.now c.args.g.now ≡ Equal = sym c.compare-side.ensures ∙ c.in-Equal.is in
+    e ∙ asked_twice (held (goal.at.returns-in-Equal c).Start) c.args.f.now c.args.g.now c.args.amount o ∙ by_rule (goal.at.returns-in-Equal c).Start c.in-Sum.is
 
 pub returns-else-not-is_held : goal.returns-else-not-is_held
 returns-else-not-is_held c =

@@ -1,13 +1,8 @@
--- `rows_formed` meets its contract. The invariant: the rows are well formed just if those from `i` on are.
-use mathlib.Core.Path.{◌≡◌}
-use Prim.Native.Nat.{◌-◌, ◌*◌, ◌≤◌}
-use lib.ListN.{drop}
+-- The rows are well formed just if those from `i` on are.
+use Rattle.std.proofs.Common.{◌≡◌, ◌-◌, ◌*◌, drop}
 use Rattle.hard.specs.Hard.{rows_formed}
 use Rattle.hard.proofs.form.rows_formed.Given as goal
 
 abbrev pub invariant-loop-i : goal.invariant-loop-i
 invariant-loop-i l =
-    (l.i ≤ l.number) × (rows_formed l.variables (l.number - l.i) (drop l.i l.counts) (drop (64 * l.i) l.places) ≡ rows_formed l.variables l.number l.counts l.places)
-
-abbrev pub decreases-loop-i : goal.decreases-loop-i
-decreases-loop-i l = l.number - l.i
+    rows_formed l.variables (l.number - l.i) (drop l.i l.counts) (drop (64 * l.i) l.places) ≡ rows_formed l.variables l.number l.counts l.places

@@ -7,7 +7,7 @@ use Rattle.table.specs.Rows.{Table, lines_of}
 use Rattle.table.specs.RowsLaws.{length_lines, line_at, Entered-at, line_some, held_below}
 use Rattle.table.proofs.Searches.{none, IsBetween, lower, upper, found, missing, first_small, falling, starts}
 use Rattle.table.proofs.lines.find.Goals as goal
-use Rattle.table.proofs.lines.find.Goals.{In-loop-low, Joined-side, Start, in-Earlier, in-Later}
+use Rattle.table.proofs.lines.find.Goals.{In-loop-low, Joined-side, Start, in-Less, in-Greater}
 
 abbrev table : goal.Start → Table
 table s = let a = s.args in record { lines = a.lines; order = a.order.now; terms = a.terms.now; weights = a.weights.now; counts = a.counts.now }
@@ -30,9 +30,9 @@ narrowed c =
     let m = l.invariant.2 c.loop-low-test.true in
     let e = line_at c.requires.0 l.middle (in_table (goal.at.Joined-side c).In-loop-low) none in
     elim c.match-side.branch [
-      | in-Earlier w ↦ (rw (w.high-is, w.low-is) (lower _ _ _ _ l.middle l.invariant.0 m _ _ e (sym c.order_at-side.ensures ∙ w.in-Earlier.is)), rw (w.high-is, w.low-is) (omega (arith, l.invariant.1)))
-      | in-Later w ↦ (
-        rw (w.high-is, w.low-is) (upper _ _ _ _ l.middle l.invariant.0 m _ _ e c.requires.0.ordered (sym c.order_at-side.ensures ∙ w.in-Later.is)),
+      | in-Less w ↦ (rw (w.high-is, w.low-is) (lower _ _ _ _ l.middle l.invariant.0 m _ _ e (sym c.order_at-side.ensures ∙ w.in-Less.is)), rw (w.high-is, w.low-is) (omega (arith, l.invariant.1)))
+      | in-Greater w ↦ (
+        rw (w.high-is, w.low-is) (upper _ _ _ _ l.middle l.invariant.0 m _ _ e c.requires.0.ordered (sym c.order_at-side.ensures ∙ w.in-Greater.is)),
         rw (w.high-is, w.low-is) (omega (arith, l.invariant.1)),
       )
     ]
@@ -70,11 +70,11 @@ order_at-side-requires c =
     let l = in_table (goal.at.order_at-side-requires c).In-loop-low in
     (c.requires.1, c.requires.2, held_below q i l, (Entered-at q i l).1, q.terms_length, line_some q i l, (Entered-at q i l).0)
 
-pub returns-in-Same : goal.returns-in-Same
-returns-in-Same c =
+pub returns-in-Equal : goal.returns-in-Equal
+returns-in-Equal c =
     let l = c.loop-low in
-    found _ _ _ _ l.middle l.invariant.0 (l.invariant.2 c.loop-low-test.true) _ _ (line_at c.requires.0 l.middle (in_table (goal.at.returns-in-Same c).In-loop-low) none) c.requires.0.ordered
-    (sym c.order_at-side.ensures ∙ c.in-Same.is)
+    found _ _ _ _ l.middle l.invariant.0 (l.invariant.2 c.loop-low-test.true) _ _ (line_at c.requires.0 l.middle (in_table (goal.at.returns-in-Equal c).In-loop-low) none) c.requires.0.ordered
+    (sym c.order_at-side.ensures ∙ c.in-Equal.is)
 
 pub overflow_add-low : goal.overflow_add-low
 overflow_add-low c = omega (arith, in_table (goal.at.overflow_add-low c).In-loop-low, entries (goal.at.overflow_add-low c).Start)
