@@ -1,5 +1,5 @@
 -- The steps of the test 'well formed', over plain lists: a line, the entries behind the lines, the lines one by one, and the parts of the whole test.
-use mathlib.Core.Path.{◌≡◌, refl, sym, ap, ◌∙◌}
+use mathlib.Core.Path.{◌≡◌, refl, sym, ap, subst, ◌∙◌}
 use mathlib.Core.Bool.{Bool, true, false, not, ◌&&◌, true≢false}
 use mathlib.Core.List.{List, [], ◌∷◌}
 use Prim.Native.Nat.{ℕ, zero, suc, ◌+◌, ◌-◌, ◌≤◌, ◌<◌}
@@ -8,15 +8,17 @@ use native.Mathlib.Numerals.{add-one}
 use native.Mathlib.Omega.{arith}
 use lib.Dec.{T}
 use lib.IntN.{ℤ, pos}
-use lib.ListN.{length, get_or, take, drop, drop_of_length-le}
-use lib.Seq.{drop-cons, drop-drop}
-use Rattle.run.specs.BooleanLaws.{is_false, left, right, both, bool_ext}
+use lib.ListN.{length, get_or, take, drop, length-drop, drop_of_length-le}
+use lib.Seq.{drop-cons, take_all, length-take-le}
+use Rattle.std.specs.Bool.{MatchBool}
+use Rattle.std.specs.List.{AllWithin, HoldsAt}
+use Rattle.run.specs.BooleanLaws.{is_true, is_false, left, right, both, bool_ext}
 use Rattle.polynomial.specs.Polynomial.{order_of}
 use Rattle.configuration.specs.Weight.{in_range, is_zero}
 use Rattle.configuration.specs.Configuration.{Line, line, some, by_order, is_polynomial, line_fits, lines_fit, weights_fit}
 use Rattle.memory.specs.declared.Entry.{Entry}
 use Rattle.memory.specs.Memory.{Memory, read_lines, unused, standing_of, well_formed}
-use Rattle.memory.specs.MemoryLaws.{used_take, used_next, length_read, Formed, well_formed_lem, Formed-well}
+use Rattle.memory.specs.MemoryLaws.{unused_is, used_take, used_next, length_read, Formed, well_formed_lem, Formed-well}
 use Rattle.configuration.specs.Area.{zeros}
 use Rattle.memory.specs.Places.{used_by, is_unused, all_unused}
 
@@ -70,36 +72,44 @@ module _ (n : ℕ) (f : List ℕ) (w : ℤ) where
   unfolding line_fits
   the_polynomial h e = rw (some_many f h) (sym (and-true (is_polynomial n f) (not (is_zero w)) (ap not e)))
 
--- ---- the entries behind the lines
-module _ (i : ℕ) (t : List Entry) (whole : Bool) (inv : all_unused (drop i t) ≡ whole) where
-  module _ (h : i < length t) where
-    next_entry : all_unused (drop i t) ≡ (is_unused (get_or t i unused) && all_unused (drop (i + 1) t))
-    unfolding all_unused
-    next_entry = ap all_unused (drop-cons t i unused h) ∙ rw (add-one i)
+-- ---- the records behind the lines
+each_unused : (t : List Entry) → ((k : ℕ) (d : Entry) → k < length t → get_or t k d ≡ unused) → T (all_unused t)
+unfolding all_unused
+each_unused [] h = tt
+each_unused (e ∷ t) h =
+    both (is_unused e) (all_unused t) (subst (λ (x : Entry). T (is_unused x)) (sym (h 0 unused (omega arith))) tt) (each_unused t (λ k d b. h (suc k) d (omega arith)))
 
-    pub entry_used : is_unused (get_or t i unused) ≡ false → false ≡ whole
-    entry_used e = sym (rw e at next_entry) ∙ inv
+unused_at : (t : List Entry) (k : ℕ) (d : Entry) → k < length t → T (all_unused t) → get_or t k d ≡ unused
+unfolding all_unused
+unused_at [] k d b u = absurd (not-suc-le-zero b)
+unused_at (e ∷ t) zero d b u = unused_is e (left (is_unused e) (all_unused t) u)
+unused_at (e ∷ t) (suc k) d b u = unused_at t k d (le_of_suc-le-suc b) (right (is_unused e) (all_unused t) u)
 
-    pub entry_unused : is_unused (get_or t i unused) ≡ true → all_unused (drop (i + 1) t) ≡ whole
-    entry_unused e = sym (rw e at next_entry) ∙ inv
-
-  pub entries_end : length t ≤ i → true ≡ whole
-  unfolding all_unused
-  entries_end h = sym (ap all_unused (drop_of_length-le t h)) ∙ inv
+-- records that are all those of no line, or one that is not: as a chain answers
+pub all_unused_by : (t : List Entry) (r : Bool) → MatchBool r (AllWithin (λ e. e ≡ unused) t 0 (length t)) ((k : ℕ) × (k < length t) × HoldsAt (λ e. e ≡ unused → ⊥) t k) → r ≡ all_unused t
+all_unused_by t true h = sym (is_true (all_unused t) (each_unused t (λ k d b. h k d (omega arith) b)))
+all_unused_by t false (k, b, h) = sym (is_false (all_unused t) (λ u. h unused (unused_at t k unused b u)))
 
 -- ---- the lines that are read, one by one
 abbrev pub both_fit : ℕ → List Line → Bool
 both_fit n L = lines_fit n L && weights_fit L
 
--- a polynomial stands before another; the one of no terms, in front of all lines, does
+-- a polynomial stands before another
 abbrev pub leads : List ℕ → List ℕ → Bool
-leads [] g = true
-leads (t ∷ f) g = by_order (order_of (t ∷ f) g) true false false
+leads f g = by_order (order_of f g) true false false
 
 -- lines may be held behind a polynomial
 abbrev pub chained : ℕ → List ℕ → List Line → Bool
 chained n f [] = true
 chained n f (line g u ∷ L) = leads f g && both_fit n (line g u ∷ L)
+
+-- the polynomial of no terms stands before all that may be held
+pub chained_none : (n : ℕ) (L : List Line) → chained n [] L ≡ both_fit n L
+unfolding lines_fit line_fits weights_fit order_of
+chained_none n [] = refl
+chained_none n (line [] u ∷ []) = refl
+chained_none n (line [] u ∷ line g v ∷ L) = refl
+chained_none n (line (t ∷ g) u ∷ L) = refl
 
 -- four tests of a line and the lines behind it, in another order
 exchanged : (a b c d e : Bool) → ((a && (b && c)) && (d && e)) ≡ ((a && d) && (b && (c && e)))
@@ -112,11 +122,9 @@ exchanged true true true d e = refl
 
 -- a line in front of others: it may be held, and they behind it
 front_line : (n : ℕ) (f : List ℕ) (w : ℤ) (L : List Line) → both_fit n (line f w ∷ L) ≡ ((line_fits n (line f w) && in_range w) && chained n f L)
-unfolding lines_fit weights_fit line_fits
+unfolding lines_fit weights_fit
 front_line n f w [] = one_line (line_fits n (line f w)) (in_range w)
-front_line n [] w (line g u ∷ L) = refl
-front_line n (t ∷ f) w (line g u ∷ L) =
-    exchanged (line_fits n (line (t ∷ f) w)) (leads (t ∷ f) g) (lines_fit n (line g u ∷ L)) (in_range w) (weights_fit (line g u ∷ L))
+front_line n f w (line g u ∷ L) = exchanged (line_fits n (line f w)) (leads f g) (lines_fit n (line g u ∷ L)) (in_range w) (weights_fit (line g u ∷ L))
 
 -- the whole, where what is left to test is lines behind a polynomial, and the first of them is read
 module _ (n : ℕ) (f g : List ℕ) (u : ℤ) (L : List Line) (whole : Bool) (inv : chained n f (line g u ∷ L) ≡ whole) where
@@ -128,6 +136,20 @@ module _ (n : ℕ) (f g : List ℕ) (u : ℤ) (L : List Line) (whole : Bool) (in
 
   pub line_passed : leads f g ≡ true → (line_fits n (line g u) && in_range u) ≡ true → chained n g L ≡ whole
   line_passed e h = sym (ap (λ (b : Bool). b && both_fit n (line g u ∷ L)) e ∙ front_line n g u L ∙ ap (λ (b : Bool). b && chained n g L) h) ∙ inv
+
+-- the lines of the first records
+pub read_take : (k : ℕ) (ts : List ℕ) (t : List Entry) → read_lines k ts (take k t) ≡ read_lines k ts t
+unfolding read_lines
+read_take zero ts t = refl
+read_take (suc k) ts [] = refl
+read_take (suc k) ts (e ∷ t) = ap (λ (L : List Line). line (take e.count ts) e.weight ∷ L) (read_take k (drop e.count ts) t)
+
+pub read_first : (k : ℕ) (ts : List ℕ) (t : List Entry) → k ≤ length t → read_lines (length (take k t)) ts (take k t) ≡ read_lines k ts t
+read_first k ts t b = ap (λ (n : ℕ). read_lines n ts (take k t)) (length-take-le k t b) ∙ read_take k ts t
+
+-- all that lies behind a place, as code takes it
+pub all_behind : {X : Type 0} (n k : ℕ) (l : List X) → length l ≡ n → take (n - k) (drop k l) ≡ drop k l
+all_behind n k l e = take_all (n - k) (drop k l) (omega (arith, length-drop k l))
 
 -- the record at place i reads a line, and those behind it the others
 module _ (ts : List ℕ) (t : List Entry) (i : ℕ) (h : i < length t) where

@@ -13,7 +13,7 @@ pub fn close(table: &Lines, used: usize, terms: &mut [u32], entries: &mut [Entry
     requires { ClearFrom used terms.old }
     ensures { (n k : ℕ) → memory_of (record { variables = n; lines = length table.now; hard = k }) terms.new entries.new ≡ image_of n table.now }
 {
-    *entries = [Entry::UNUSED; 128];
+    entries.fill(Entry::UNUSED);
     let mut end: usize = 0;
     for i in 0..table.len() {
         let f = table.terms(i);

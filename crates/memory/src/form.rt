@@ -48,6 +48,7 @@ fn lines_fit(variables: u32, terms: &[u32], entries: &[Entry]) -> bool
     requires { used_by entries.now ≤ length terms.now }
     ensures { let L = read_lines (length entries.now) terms.now entries.now in result ≡ (lines_fit variables L && weights_fit L) }
 {
+    // The polynomial of no terms stands before all others.
     let mut last = &terms[..0];
     let mut rest = terms;
     for entry in entries {
@@ -55,10 +56,8 @@ fn lines_fit(variables: u32, terms: &[u32], entries: &[Entry]) -> bool
         if !line_fits(variables, f, entry.weight) {
             return false;
         }
-        if !last.is_empty() {
-            if !stands_before(last, f) {
-                return false;
-            }
+        if !stands_before(last, f) {
+            return false;
         }
         last = f;
         rest = behind;
