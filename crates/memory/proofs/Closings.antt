@@ -9,20 +9,12 @@ use lib.ListN.{length, get_or, set, take, drop, replicate, length-append, length
 use lib.Seq.{append_snoc, take_at, drop_at, take-suc, drop-drop, set_at, length-take-le}
 use Rattle.configuration.specs.Configuration.{Line, line}
 use Rattle.configuration.specs.LineLaws.{IsShort, Every-take}
-use Rattle.table.specs.Rows.{Table, row_of, lines_at, lines_of, Each, Entered, Fits}
 use Rattle.memory.specs.declared.Entry.{Entry}
 use Rattle.memory.specs.Memory.{Memory, all_terms, entries_of, unused, image_of}
 use Rattle.memory.specs.LayoutLaws.{length_entries}
 use Rattle.configuration.specs.AreaLaws.{zeros-replicate}
 use Rattle.memory.specs.MemoryLaws.{length_terms}
 use Rattle.memory.specs.Places.{ClearFrom}
-
-Each-short : (t : Table) (is : List ℕ) → Each (Entered t) is → IsShort (lines_at t is)
-Each-short t [] h = tt
-Each-short t (e ∷ is) h = (omega (arith, h.0.1, length-take (get_or t.counts (row_of e) 0) (drop (64 * row_of e) t.terms)), Each-short t is h.1)
-
-pub table_short : {c : ℕ} {t : Table} → Fits c t → IsShort (lines_of t)
-table_short {c} {t} q = Each-short t (take t.lines t.order) q.entered
 
 -- ---- no line is written yet
 pub no_terms : (N : List Line) (l : List ℕ) → l ≡ all_terms (take 0 N) ++ drop 0 l

@@ -1,22 +1,24 @@
 -- The steps of the test 'well formed', over plain lists: a line, the entries behind the lines, the lines one by one, and the parts of the whole test.
-use mathlib.Core.Path.{◌≡◌, refl, sym, ap, ◌∙◌}
+use mathlib.Core.Path.{◌≡◌, refl, sym, ap, subst, ◌∙◌}
 use mathlib.Core.Bool.{Bool, true, false, not, ◌&&◌, true≢false}
 use mathlib.Core.List.{List, [], ◌∷◌}
-use Prim.Native.Nat.{ℕ, zero, suc, ◌+◌, ◌≤◌, ◌<◌}
+use Prim.Native.Nat.{ℕ, zero, suc, ◌+◌, ◌-◌, ◌≤◌, ◌<◌}
 use native.Mathlib.Nat.{le_of_suc-le-suc, not-suc-le-zero}
 use native.Mathlib.Numerals.{add-one}
 use native.Mathlib.Omega.{arith}
 use lib.Dec.{T}
 use lib.IntN.{ℤ, pos}
-use lib.ListN.{length, get_or, take, drop, drop_of_length-le}
-use lib.Seq.{drop-cons, drop-drop}
-use Rattle.run.specs.BooleanLaws.{is_false, left, right, both, bool_ext}
+use lib.ListN.{length, get_or, take, drop, length-drop, drop_of_length-le}
+use lib.Seq.{drop-cons, take_all, length-take-le}
+use Rattle.std.specs.Bool.{MatchBool}
+use Rattle.std.specs.List.{AllWithin, HoldsAt}
+use Rattle.run.specs.BooleanLaws.{is_true, is_false, left, right, both, bool_ext}
 use Rattle.polynomial.specs.Polynomial.{order_of}
 use Rattle.configuration.specs.Weight.{in_range, is_zero}
 use Rattle.configuration.specs.Configuration.{Line, line, some, by_order, is_polynomial, line_fits, lines_fit, weights_fit}
 use Rattle.memory.specs.declared.Entry.{Entry}
 use Rattle.memory.specs.Memory.{Memory, read_lines, unused, standing_of, well_formed}
-use Rattle.memory.specs.MemoryLaws.{used_take, used_next, length_read, Formed, well_formed_lem, Formed-well}
+use Rattle.memory.specs.MemoryLaws.{unused_is, used_take, used_next, length_read, Formed, well_formed_lem, Formed-well}
 use Rattle.configuration.specs.Area.{zeros}
 use Rattle.memory.specs.Places.{used_by, is_unused, all_unused}
 
@@ -28,6 +30,11 @@ and-false false b e = refl
 pub and-true : (a b : Bool) → b ≡ true → (a && b) ≡ a
 and-true true b e = e
 and-true false b e = refl
+
+one_line : (a b : Bool) → (a && (b && true)) ≡ ((a && b) && true)
+one_line true true = refl
+one_line true false = refl
+one_line false b = refl
 
 both_true : (a b : Bool) → (a && b) ≡ true → (a ≡ true) × (b ≡ true)
 both_true true b e = (refl, e)
@@ -65,108 +72,99 @@ module _ (n : ℕ) (f : List ℕ) (w : ℤ) where
   unfolding line_fits
   the_polynomial h e = rw (some_many f h) (sym (and-true (is_polynomial n f) (not (is_zero w)) (ap not e)))
 
--- ---- the entries behind the lines
-module _ (i : ℕ) (t : List Entry) (whole : Bool) (inv : all_unused (drop i t) ≡ whole) where
-  module _ (h : i < length t) where
-    next_entry : all_unused (drop i t) ≡ (is_unused (get_or t i unused) && all_unused (drop (i + 1) t))
-    unfolding all_unused
-    next_entry = ap all_unused (drop-cons t i unused h) ∙ rw (add-one i)
+-- ---- the records behind the lines
+each_unused : (t : List Entry) → ((k : ℕ) (d : Entry) → k < length t → get_or t k d ≡ unused) → T (all_unused t)
+unfolding all_unused
+each_unused [] h = tt
+each_unused (e ∷ t) h =
+    both (is_unused e) (all_unused t) (subst (λ (x : Entry). T (is_unused x)) (sym (h 0 unused (omega arith))) tt) (each_unused t (λ k d b. h (suc k) d (omega arith)))
 
-    pub entry_used : is_unused (get_or t i unused) ≡ false → false ≡ whole
-    entry_used e = sym (rw e at next_entry) ∙ inv
+unused_at : (t : List Entry) (k : ℕ) (d : Entry) → k < length t → T (all_unused t) → get_or t k d ≡ unused
+unfolding all_unused
+unused_at [] k d b u = absurd (not-suc-le-zero b)
+unused_at (e ∷ t) zero d b u = unused_is e (left (is_unused e) (all_unused t) u)
+unused_at (e ∷ t) (suc k) d b u = unused_at t k d (le_of_suc-le-suc b) (right (is_unused e) (all_unused t) u)
 
-    pub entry_unused : is_unused (get_or t i unused) ≡ true → all_unused (drop (i + 1) t) ≡ whole
-    entry_unused e = sym (rw e at next_entry) ∙ inv
-
-  pub entries_end : length t ≤ i → true ≡ whole
-  unfolding all_unused
-  entries_end h = sym (ap all_unused (drop_of_length-le t h)) ∙ inv
+-- records that are all those of no line, or one that is not: as a chain answers
+pub all_unused_by : (t : List Entry) (r : Bool) → MatchBool r (AllWithin (λ e. e ≡ unused) t 0 (length t)) ((k : ℕ) × (k < length t) × HoldsAt (λ e. e ≡ unused → ⊥) t k) → r ≡ all_unused t
+all_unused_by t true h = sym (is_true (all_unused t) (each_unused t (λ k d b. h k d (omega arith) b)))
+all_unused_by t false (k, b, h) = sym (is_false (all_unused t) (λ u. h unused (unused_at t k unused b u)))
 
 -- ---- the lines that are read, one by one
-abbrev pub terms_read : List ℕ → List Entry → ℕ → List ℕ
-terms_read ts t i = take (get_or t i unused).count (drop (used_by (take i t)) ts)
-
-abbrev pub line_read : List ℕ → List Entry → ℕ → Line
-line_read ts t i = line (terms_read ts t i) (get_or t i unused).weight
-
-pub line_read_lem : (k i : ℕ) (ts : List ℕ) (t : List Entry) (d : Line) → i < k → k ≤ length t → get_or (read_lines k ts t) i d ≡ line_read ts t i
-unfolding read_lines used_by
-line_read_lem zero i ts t d h l = absurd (not-suc-le-zero h)
-line_read_lem (suc k) i ts [] d h l = absurd (not-suc-le-zero l)
-line_read_lem (suc k) zero ts (e ∷ t) d h l = refl
-line_read_lem (suc k) (suc i) ts (e ∷ t) d h l =
-    line_read_lem k i (drop e.count ts) t d (le_of_suc-le-suc h) (le_of_suc-le-suc l) ∙ rw (drop-drop (used_by (take i t)) e.count ts)
-
--- its terms are within the area, if all are
-pub read_within : (i n : ℕ) (t : List Entry) → i < length t → used_by t ≤ n → used_by (take i t) + (get_or t i unused).count ≤ n
-read_within i n t h u = omega (arith, used_next i t h, used_take (i + 1) t)
-
 abbrev pub both_fit : ℕ → List Line → Bool
 both_fit n L = lines_fit n L && weights_fit L
 
-module _ (n : ℕ) (f : List ℕ) (w : ℤ) where
-  misfit : (L : List Line) → (line_fits n (line f w) && in_range w) ≡ false → both_fit n (line f w ∷ L) ≡ false
-  unfolding lines_fit weights_fit
-  misfit [] e = rw (and-true (line_fits n (line f w)) true refl) at (none_of (line_fits n (line f w)) true (in_range w) true e)
-  misfit (line g u ∷ L) e = none_of (line_fits n (line f w)) _ (in_range w) _ e
+-- a polynomial stands before another
+abbrev pub leads : List ℕ → List ℕ → Bool
+leads f g = by_order (order_of f g) true false false
 
-  fit_last : (line_fits n (line f w) && in_range w) ≡ true → both_fit n (line f w ∷ []) ≡ true
-  unfolding lines_fit weights_fit
-  fit_last e = let p = both_true (line_fits n (line f w)) (in_range w) e in rw (p.0, p.1)
+-- lines may be held behind a polynomial
+abbrev pub chained : ℕ → List ℕ → List Line → Bool
+chained n f [] = true
+chained n f (line g u ∷ L) = leads f g && both_fit n (line g u ∷ L)
 
-  fit_pair : (g : List ℕ) (u : ℤ) (L : List Line) → (line_fits n (line f w) && in_range w) ≡ true
-      → both_fit n (line f w ∷ line g u ∷ L) ≡ (by_order (order_of f g) true false false && both_fit n (line g u ∷ L))
-  unfolding lines_fit weights_fit
-  fit_pair g u L e =
-      let p = both_true (line_fits n (line f w)) (in_range w) e in
-      rw (p.0, p.1) (and_assoc (by_order (order_of f g) true false false) (lines_fit n (line g u ∷ L)) (weights_fit (line g u ∷ L)))
+-- the polynomial of no terms stands before all that may be held
+pub chained_none : (n : ℕ) (L : List Line) → chained n [] L ≡ both_fit n L
+unfolding lines_fit line_fits weights_fit order_of
+chained_none n [] = refl
+chained_none n (line [] u ∷ []) = refl
+chained_none n (line [] u ∷ line g v ∷ L) = refl
+chained_none n (line (t ∷ g) u ∷ L) = refl
 
-module _ (n k i : ℕ) (ts : List ℕ) (t : List Entry) (b : k ≤ length t) (inv : both_fit n (drop i (read_lines k ts t)) ≡ both_fit n (read_lines k ts t)) where
-  abbrev L : List Line
-  L = read_lines k ts t
+-- four tests of a line and the lines behind it, in another order
+exchanged : (a b c d e : Bool) → ((a && (b && c)) && (d && e)) ≡ ((a && d) && (b && (c && e)))
+exchanged false b c d e = refl
+exchanged true false c true e = refl
+exchanged true false c false e = refl
+exchanged true true false true e = refl
+exchanged true true false false e = refl
+exchanged true true true d e = refl
 
-  here : (j : ℕ) → j < k → drop j L ≡ line_read ts t j ∷ drop (j + 1) L
-  here j h =
-      let d : Line = line [] (pos 0) in
-      let l : j < length L = omega (arith, length_read k ts t b) in
-      drop-cons L j d l ∙ rw (line_read_lem k j ts t d h b, add-one j)
+-- a line in front of others: it may be held, and they behind it
+front_line : (n : ℕ) (f : List ℕ) (w : ℤ) (L : List Line) → both_fit n (line f w ∷ L) ≡ ((line_fits n (line f w) && in_range w) && chained n f L)
+unfolding lines_fit weights_fit
+front_line n f w [] = one_line (line_fits n (line f w)) (in_range w)
+front_line n f w (line g u ∷ L) = exchanged (line_fits n (line f w)) (leads f g) (lines_fit n (line g u ∷ L)) (in_range w) (weights_fit (line g u ∷ L))
 
-  abbrev Here : Bool
-  Here = line_fits n (line_read ts t i) && in_range (get_or t i unused).weight
+-- the whole, where what is left to test is lines behind a polynomial, and the first of them is read
+module _ (n : ℕ) (f g : List ℕ) (u : ℤ) (L : List Line) (whole : Bool) (inv : chained n f (line g u ∷ L) ≡ whole) where
+  pub line_misfit : (line_fits n (line g u) && in_range u) ≡ false → false ≡ whole
+  line_misfit e = sym (ap (λ (b : Bool). leads f g && b) (front_line n g u L ∙ rw e) ∙ and-false (leads f g) false refl) ∙ inv
 
-  pub line_misfit : i < k → Here ≡ false → false ≡ both_fit n L
-  line_misfit h e = sym (misfit n _ _ (drop (i + 1) L) e) ∙ (rw (here i h) at inv)
+  pub out_of_order : leads f g ≡ false → false ≡ whole
+  out_of_order e = sym (ap (λ (b : Bool). b && both_fit n (line g u ∷ L)) e) ∙ inv
 
-  module _ (h : i + 1 < k) (e : Here ≡ true) where
-    abbrev first_before : Bool
-    first_before = by_order (order_of (terms_read ts t i) (terms_read ts t (i + 1))) true false false
+  pub line_passed : leads f g ≡ true → (line_fits n (line g u) && in_range u) ≡ true → chained n g L ≡ whole
+  line_passed e h = sym (ap (λ (b : Bool). b && both_fit n (line g u ∷ L)) e ∙ front_line n g u L ∙ ap (λ (b : Bool). b && chained n g L) h) ∙ inv
 
-    pair : both_fit n (drop i L) ≡ (first_before && both_fit n (drop (i + 1) L))
-    pair =
-        let l : i < k = omega arith in
-        ap (both_fit n) (here i l ∙ ap (λ (M : List Line). line_read ts t i ∷ M) (here (i + 1) h)) ∙ fit_pair n _ _ _ _ (drop (i + 1 + 1) L) e
-        ∙ ap (λ (M : List Line). first_before && both_fit n M) (sym (here (i + 1) h))
+-- the lines of the first records
+pub read_take : (k : ℕ) (ts : List ℕ) (t : List Entry) → read_lines k ts (take k t) ≡ read_lines k ts t
+unfolding read_lines
+read_take zero ts t = refl
+read_take (suc k) ts [] = refl
+read_take (suc k) ts (e ∷ t) = ap (λ (L : List Line). line (take e.count ts) e.weight ∷ L) (read_take k (drop e.count ts) t)
 
-    pub out_of_order : first_before ≡ false → false ≡ both_fit n L
-    out_of_order o = sym (rw o at pair) ∙ inv
+pub read_first : (k : ℕ) (ts : List ℕ) (t : List Entry) → k ≤ length t → read_lines (length (take k t)) ts (take k t) ≡ read_lines k ts t
+read_first k ts t b = ap (λ (n : ℕ). read_lines n ts (take k t)) (length-take-le k t b) ∙ read_take k ts t
 
-    pub ordered_pair : first_before ≡ true → both_fit n (drop (i + 1) L) ≡ both_fit n L
-    ordered_pair o = sym (rw o at pair) ∙ inv
+-- all that lies behind a place, as code takes it
+pub all_behind : {X : Type 0} (n k : ℕ) (l : List X) → length l ≡ n → take (n - k) (drop k l) ≡ drop k l
+all_behind n k l e = take_all (n - k) (drop k l) (omega (arith, length-drop k l))
 
-  none_left : (j : ℕ) → k ≤ j → drop j L ≡ []
-  none_left j h =
-      let l : length L ≤ j = omega (arith, length_read k ts t b) in
-      drop_of_length-le L l
+-- the record at place i reads a line, and those behind it the others
+module _ (ts : List ℕ) (t : List Entry) (i : ℕ) (h : i < length t) where
+  abbrev e : Entry
+  e = get_or t i unused
 
-  pub last_line : i < k → k ≤ i + 1 → Here ≡ true → both_fit n (drop (i + 1) L) ≡ both_fit n L
-  unfolding lines_fit weights_fit
-  last_line h l e =
-      let z : drop i L ≡ line_read ts t i ∷ [] = here i h ∙ ap (λ (M : List Line). line_read ts t i ∷ M) (none_left (i + 1) l) in
-      ap (both_fit n) (none_left (i + 1) l) ∙ sym (fit_last n _ _ e) ∙ sym (ap (both_fit n) z) ∙ inv
+  pub used_left : used_by (drop i t) ≡ e.count + used_by (drop (i + 1) t)
+  unfolding used_by
+  used_left = ap used_by (drop-cons t i unused h) ∙ rw (add-one i)
 
-  pub lines_end : k ≤ i → true ≡ both_fit n L
-  unfolding lines_fit weights_fit
-  lines_end h = sym (ap (both_fit n) (none_left i h)) ∙ inv
+  pub next_line : read_lines (length t - i) ts (drop i t) ≡ line (take e.count ts) e.weight ∷ read_lines (length t - (i + 1)) (drop e.count ts) (drop (i + 1) t)
+  unfolding read_lines
+  next_line =
+      let m : length t - i ≡ suc (length t - (i + 1)) = omega arith in
+      rw (m, drop-cons t i unused h, add-one i)
 
 -- ---- the whole test
 pub not_well : (m : Memory) → (Formed m → ⊥) → false ≡ well_formed m

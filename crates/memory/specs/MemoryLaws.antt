@@ -52,7 +52,7 @@ is_zero→eq (pos zero) h = refl
 is_zero→eq (pos (suc n)) h = absurd h
 is_zero→eq (negsuc n) h = absurd h
 
-unused_is : (e : Entry) → T (is_unused e) → e ≡ unused
+pub unused_is : (e : Entry) → T (is_unused e) → e ≡ unused
 unused_is e h =
     ap₂ (λ (w : ℤ) (n : ℕ). record { weight = w; count = n }) (is_zero→eq e.weight (left (is_zero e.weight) (eqb e.count 0) h))
     (eqb→eq e.count 0 (right (is_zero e.weight) (eqb e.count 0) h))

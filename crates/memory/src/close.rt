@@ -1,46 +1,30 @@
 // From the working form back to what is lent.
-ghost use Rattle.std.specs.Prelude.{◌≡◌, ℕ};
-ghost use Rattle.table.specs.Rows.{table_at, lines_of, Fits};
+ghost use Rattle.std.specs.Prelude.{◌≡◌, ℕ, length};
 ghost use Rattle.memory.specs.Memory.{image_of, memory_of};
 ghost use Rattle.memory.specs.Places.{ClearFrom};
 
 use crate::Entry;
-use crate::area::clear_part;
-use crate::entries::no_entries;
 use polynomial::area::write;
-use table::lines::row;
-use table::order::row_at;
+use table::Lines;
 
-// Writes the lines of the working form back, in their order, into a term area that is zero from the place `used` on, and answers
-// their entries. Only the places up to there that the lines leave are cleared. It is for the crate `checker`.
-pub fn close(
-    lines: usize,
-    order: &[u64],
-    rows: &[u32],
-    weights: &[i64],
-    counts: &[u32],
-    used: usize,
-    terms: &mut [u32],
-) -> [Entry; 128]
-    requires { Fits 128 (table_at lines order.now rows.now weights.now counts.now) × ClearFrom used terms.old }
-    ensures { let N = lines_of (table_at lines order.now rows.now weights.now counts.now) in
-        ((n k : ℕ) → memory_of (record { variables = n; lines = lines; hard = k }) terms.new result ≡ image_of n N) }
+// Writes the lines of the working form back, in their order: their terms into a term area that is zero from the place `used` on, and
+// their records. Only the places up to there that the lines leave are cleared. It is for the crate `checker`.
+pub fn close(table: &Lines, used: usize, terms: &mut [u32], entries: &mut [Entry; 128])
+    requires { ClearFrom used terms.old }
+    ensures { (n k : ℕ) → memory_of (record { variables = n; lines = length table.now; hard = k }) terms.new entries.new ≡ image_of n table.now }
 {
-    let mut entries = no_entries();
+    entries.fill(Entry::UNUSED);
     let mut end: usize = 0;
-    let mut i: usize = 0;
-    while i < lines {
-        let here = row_at(order, i);
-        let count = counts[here];
-        let weight = weights[here];
-        let f = row(rows, here, count as usize);
+    for i in 0..table.len() {
+        let f = table.terms(i);
         write(terms, end, f);
-        entries[i] = Entry { weight, count };
+        entries[i] = Entry {
+            weight: table.weight(i),
+            count: f.len() as u32,
+        };
         end += f.len();
-        i += 1;
     }
     if end < used {
-        clear_part(terms, end, used);
+        terms[end..used].fill(0);
     }
-    entries
 }

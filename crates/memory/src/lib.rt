@@ -2,14 +2,13 @@
 // formed, and how lines are read from them and written back. The operations of the crate `checker` call it.
 #![tactic(auto)]
 
-pub mod area;
 pub mod close;
 pub mod entries;
 pub mod form;
 pub mod open;
 
 // The head of what is lent: how many variables the problem has, how many lines are held, and how many hard polynomials.
-#[derive(Clone, Copy)]
+#[derive(Clone, Copy, PartialEq, Eq)]
 pub struct Head {
     pub variables: u32,
     pub lines: u32,
@@ -17,8 +16,16 @@ pub struct Head {
 }
 
 // The record of a line in the line table: its weight, and how many terms it has.
-#[derive(Clone, Copy)]
+#[derive(Clone, Copy, PartialEq, Eq)]
 pub struct Entry {
     pub weight: i64,
     pub count: u32,
+}
+
+impl Entry {
+    // The record of no line.
+    pub const UNUSED: Entry = Entry {
+        weight: 0,
+        count: 0,
+    };
 }

@@ -1,162 +1,83 @@
-use mathlib.Core.Path.{◌≡◌, sym, ap, ap₂, ◌∙◌}
-use mathlib.Core.List.{List, ◌++◌}
-use Prim.Native.Nat.{ℕ, ◌+◌, ◌-◌, ◌*◌, ◌≤◌, ◌<◌}
-use native.Mathlib.Omega.{arith}
-use lib.IntN.{ℤ, pos}
-use lib.ListN.{length, get_or, set, take, drop, replicate, length-drop}
-use lib.Seq.{take_all, length-take-le}
-use borrow.Author.Rules.{rules}
+use Rattle.std.proofs.Common.{◌≡◌, refl, sym, ap, ap₂, ◌∙◌, rules, arith, ◌+◌, ◌-◌, ◌≤◌, ◌<◌, ◌++◌, List, ℕ, length, take, drop, replicate, take_all, length-take, length-drop, set, w64, to_z, of_z}
+use Rattle.std.proofs.Math.Seq.{drop-drop}
 use Rattle.configuration.specs.Configuration.{Line, line}
 use Rattle.configuration.proofs.Weights.{read_back}
-use Rattle.table.specs.Rows.{Table, row_of, lines_of, terms_in, Fits}
-use Rattle.table.specs.RowsLaws.{length_lines, line_at, Entered-at, held_below, row_fits}
-use Rattle.table.proofs.Searches.{none}
+use Rattle.table.specs.Table.{terms_at, weight_at, no_line}
+use Rattle.table.specs.TableLaws.{line_is}
 use Rattle.memory.specs.declared.Entry.{Entry}
 use Rattle.memory.specs.Memory.{Memory, all_terms, entries_of, unused, image_of}
 use Rattle.memory.specs.MemoryLaws.{length_terms}
-use Rattle.memory.proofs.Closings.{no_terms, no_end, no_lines, table_short, end_within, next_end, next_terms, next_entries, already_clear, cleared_now, written_back}
+use Rattle.memory.proofs.Closings.{no_terms, no_end, no_lines, end_within, next_end, next_terms, next_entries, already_clear, cleared_now, written_back}
 use Rattle.memory.proofs.close.close.Goals as goal
-use Rattle.memory.proofs.close.close.Goals.{After-loop-i, After-row-f, In-loop-i, Start}
-
-abbrev table : goal.Start → Table
-table s = let a = s.args in record { lines = a.lines; order = a.order.now; terms = a.rows.now; weights = a.weights.now; counts = a.counts.now }
+use Rattle.memory.proofs.close.close.Goals.{After-loop-i, After-terms-f, In-loop-i}
 
 pub loop-i-init : goal.loop-i-init
 loop-i-init c =
-    let N = lines_of (table (goal.at.loop-i-init c).Start) in
-    (omega arith, c.requires.1.0, no_terms N c.args.terms.now, c.no_entries-entries.ensures ∙ no_lines N, no_end N)
+    let N = c.args.table.now in
+    (c.requires.0, no_terms N c.args.terms.now, c.fill.ensures.after (λ y h. h) ∙ ap (λ (n : ℕ). replicate n unused) c.told-entries ∙ no_lines N, no_end N)
 
-abbrev lines : goal.In-loop-i → List Line
-lines c = lines_of (table (goal.at.In-loop-i c).Start)
+among : (c : goal.In-loop-i) → c.loop-i.i < length c.args.table.now
+among c = omega (arith, c.loop-i-test.true, c.len-i-end.ensures.lines)
 
-abbrev place : goal.In-loop-i → ℕ
-place c = c.loop-i.i
-
-fits : (c : goal.In-loop-i) → Fits 128 (table (goal.at.In-loop-i c).Start)
-fits c = c.requires.0
-
-below : (c : goal.In-loop-i) → place c < c.args.lines
-below c = c.loop-i-test.true
-
-among : (c : goal.In-loop-i) → place c < length (lines c)
-among c = omega (arith, below c, length_lines (fits c))
-
-abbrev row : goal.In-loop-i → ℕ
-row c = row_of (get_or c.args.order.now (place c) 0)
-
-abbrev polynomial : goal.In-loop-i → List ℕ
-polynomial c = terms_in (table (goal.at.In-loop-i c).Start) (row c)
-
-abbrev weight : goal.In-loop-i → ℤ
-weight c = get_or c.args.weights.now (row c) (pos 0)
-
-here : (c : goal.In-loop-i) → get_or (lines c) (place c) none ≡ line (polynomial c) (weight c)
-here c = line_at (fits c) (place c) (below c) none
-
-count_is : (c : goal.In-loop-i) → length (polynomial c) ≡ get_or c.args.counts.now (row c) 0
-count_is c =
-    length-take-le (get_or c.args.counts.now (row c) 0) (drop (64 * row c) c.args.rows.now)
-    (omega (arith, length-drop (64 * row c) c.args.rows.now, row_fits (fits c) (place c) (below c)))
-
--- there is room for its terms
-room : (c : goal.In-loop-i) → c.loop-i.end + length (polynomial c) ≤ 8192
+-- there is room for the terms of this line
+room : (c : goal.After-terms-f) → c.loop-i.end + length c.terms-f.result.now ≤ 8192
 room c =
     omega (
       arith,
-      c.loop-i.invariant.4,
-      count_is c,
-      (Entered-at (fits c) (place c) (below c)).1,
-      end_within (lines c) (place c) (among c) (table_short (fits c)) (omega (arith, (fits c).room, length_lines (fits c))),
+      c.loop-i.invariant.3,
+      c.terms-f.ensures.short,
+      end_within c.args.table.now c.loop-i.i (among (goal.at.After-terms-f c).In-loop-i) c.len-i-end.ensures.short (omega (arith, c.len-i-end.ensures.few, c.len-i-end.ensures.lines)),
     )
 
-pub row_at-here-requires : goal.row_at-here-requires
-row_at-here-requires c = let q = fits c in omega (arith, c.loop-i-test.true, q.room, q.order_length)
-
-pub bounds-counts-here : goal.bounds-counts-here
-bounds-counts-here c = omega (arith, c.row_at-here.ensures, held_below (fits (goal.at.bounds-counts-here c).In-loop-i) (place (goal.at.bounds-counts-here c).In-loop-i) (below (goal.at.bounds-counts-here c).In-loop-i), (fits (goal.at.bounds-counts-here c).In-loop-i).counts_length)
-
-pub bounds-weights-here : goal.bounds-weights-here
-bounds-weights-here c = omega (arith, c.row_at-here.ensures, held_below (fits (goal.at.bounds-weights-here c).In-loop-i) (place (goal.at.bounds-weights-here c).In-loop-i) (below (goal.at.bounds-weights-here c).In-loop-i), (fits (goal.at.bounds-weights-here c).In-loop-i).weights_length)
-
-pub overflow_cast-count : goal.overflow_cast-count
-overflow_cast-count c = omega (arith, c.type_inv.counts c.row_at-here.result)
-
-pub row-f-requires : goal.row-f-requires
-row-f-requires c = rw c.row_at-here.ensures (row_fits (fits (goal.at.row-f-requires c).In-loop-i) (place (goal.at.row-f-requires c).In-loop-i) (below (goal.at.row-f-requires c).In-loop-i))
-
--- what is read of it
-row_is : (c : goal.After-row-f) → c.row-f.result.now ≡ polynomial (goal.at.After-row-f c).In-loop-i
-row_is c =
-    c.row-f.ensures ∙ ap (terms_in (table (goal.at.After-row-f c).Start)) c.row_at-here.ensures
-
 pub write-requires : goal.write-requires
-write-requires c =
-    omega (arith, c.loop-i.invariant.1, room (goal.at.write-requires c).In-loop-i, ap length (row_is (goal.at.write-requires c).After-row-f))
-
-pub bounds-entries-i : goal.bounds-entries-i
-bounds-entries-i c = omega (arith, below (goal.at.bounds-entries-i c).In-loop-i, (fits (goal.at.bounds-entries-i c).In-loop-i).room)
-
-pub overflow_add-end : goal.overflow_add-end
-overflow_add-end c =
-    let b = room (goal.at.overflow_add-end c).In-loop-i in
-    let e = ap length (row_is (goal.at.overflow_add-end c).After-row-f) in
-    search rules
+write-requires c = omega (arith, c.loop-i.invariant.0, room (goal.at.write-requires c).After-terms-f)
 
 pub loop-i-preserved : goal.loop-i-preserved
 loop-i-preserved c =
     let l = c.loop-i in
-    let p = c.write in
-    let a = c.row_at-here.ensures in
-    let t = c.args in
-    let N = lines (goal.at.loop-i-preserved c).In-loop-i in
-    let f = polynomial (goal.at.loop-i-preserved c).In-loop-i in
-    let w = weight (goal.at.loop-i-preserved c).In-loop-i in (
-      omega (arith, below (goal.at.loop-i-preserved c).In-loop-i),
+    let N = c.args.table.now in
+    let f = c.terms-f.result.now in
+    let b = among (goal.at.loop-i-preserved c).In-loop-i in
+    let x = line_is N l.i no_line b ∙ ap₂ line (sym c.terms-f.ensures.line) (sym (read_back _ (search rules) ∙ c.weight.ensures)) in (
       search rules,
-      p.ensures ∙ ap₂ (λ (m f : List ℕ). take l.end m ++ (f ++ drop (l.end + length f) m)) l.invariant.2 (row_is (goal.at.loop-i-preserved c).After-row-f)
-          ∙ next_terms N (place (goal.at.loop-i-preserved c).In-loop-i) (among (goal.at.loop-i-preserved c).In-loop-i) f w none (here (goal.at.loop-i-preserved c).In-loop-i) t.terms.now l.end l.invariant.4
-          ∙ ap (λ (g : List ℕ). all_terms (take (l.i + 1) N) ++ drop (l.end + length g) t.terms.now) (sym (row_is (goal.at.loop-i-preserved c).After-row-f)),
-      ap₂ (λ (t : List Entry) (e : Entry). set t l.i e) l.invariant.3
-          (ap₂ (λ (u : ℤ) (n : ℕ). record { weight = u; count = n }) (read_back _ c.weight-1.given ∙ ap (λ (r : ℕ). get_or t.weights.now r (pos 0)) a)
-          (ap (λ (r : ℕ). get_or t.counts.now r 0) a ∙ sym (count_is (goal.at.loop-i-preserved c).In-loop-i)))
-          ∙ next_entries N (place (goal.at.loop-i-preserved c).In-loop-i) (among (goal.at.loop-i-preserved c).In-loop-i) f w none (here (goal.at.loop-i-preserved c).In-loop-i) (omega (arith, below (goal.at.loop-i-preserved c).In-loop-i, (fits (goal.at.loop-i-preserved c).In-loop-i).room)),
-      ap₂ (λ (e : ℕ) (f : List ℕ). e + length f) l.invariant.4 (row_is (goal.at.loop-i-preserved c).After-row-f) ∙ next_end N (place (goal.at.loop-i-preserved c).In-loop-i) (among (goal.at.loop-i-preserved c).In-loop-i) f w none (here (goal.at.loop-i-preserved c).In-loop-i),
+      c.write.ensures ∙ ap (λ (m : List ℕ). take l.end m ++ (f ++ drop (l.end + length f) m)) l.invariant.1 ∙ next_terms N l.i b f _ no_line x c.args.terms.now l.end l.invariant.3,
+      ap (λ (t : List Entry). set t l.i (record { weight = to_z w64 (of_z w64 c.weight.result); count = length f })) l.invariant.2 ∙ next_entries N l.i b f _ no_line x (omega (arith, b, c.len-i-end.ensures.few, c.len-i-end.ensures.lines)),
+      ap (λ (e : ℕ). e + length f) l.invariant.3 ∙ next_end N l.i b f _ no_line x,
     )
 
-abbrev all : goal.After-loop-i → List Line
-all c = lines_of (table (goal.at.After-loop-i c).Start)
+none_left : (c : goal.After-loop-i) → take c.loop-i.i c.args.table.now ≡ c.args.table.now
+none_left c = take_all c.loop-i.i c.args.table.now (omega (arith, c.loop-i-test.false, c.len-i-end.ensures.lines))
 
-none_left : (c : goal.After-loop-i) → take c.loop-i.i (all c) ≡ all c
-none_left c = take_all c.loop-i.i (all c) (omega (arith, c.loop-i-test.false, length_lines c.requires.0))
+end_is : (c : goal.After-loop-i) → length (all_terms c.args.table.now) ≡ c.loop-i.end
+end_is c = ap (λ (M : List Line). length (all_terms M)) (sym (none_left c)) ∙ sym c.loop-i.invariant.3
 
-end_is : (c : goal.After-loop-i) → length (all_terms (all c)) ≡ c.loop-i.end
-end_is c = ap (λ (M : List Line). length (all_terms M)) (sym (none_left c)) ∙ sym c.loop-i.invariant.4
+terms_are : (c : goal.After-loop-i) → c.loop-i.terms ≡ all_terms c.args.table.now ++ drop c.loop-i.end c.args.terms.now
+terms_are c = c.loop-i.invariant.1 ∙ ap (λ (M : List Line). all_terms M ++ drop c.loop-i.end c.args.terms.now) (none_left c)
 
-terms_are : (c : goal.After-loop-i) → c.loop-i.terms ≡ all_terms (all c) ++ drop c.loop-i.end c.args.terms.now
-terms_are c = c.loop-i.invariant.2 ∙ ap (λ (M : List Line). all_terms M ++ drop c.loop-i.end c.args.terms.now) (none_left c)
-
--- what is answered, in an area whose places behind the lines are zero
-image_is : (c : goal.After-loop-i) → (n : ℕ) → (l : List ℕ) → l ≡ all_terms (all c) ++ replicate (8192 - c.loop-i.end) 0 → ◌≡◌ {A = Memory} (record { variables = n; lines = c.args.lines; terms = l; table = c.loop-i.entries }) (image_of n (all c))
+-- what is left, in an area whose places behind the lines are zero
+image_is : (c : goal.After-loop-i) (n : ℕ) (l : List ℕ) → l ≡ all_terms c.args.table.now ++ replicate (8192 - c.loop-i.end) 0
+    → ◌≡◌ {A = Memory} (record { variables = n; lines = length c.args.table.now; terms = l; table = c.loop-i.entries }) (image_of n c.args.table.now)
 image_is c n l e =
     let k = c.loop-i in
-    let i : k.i ≡ c.args.lines = omega (arith, c.loop-i-test.false, k.invariant.0) in
-    written_back n c.args.lines (all c) l k.entries k.end (length_lines c.requires.0) (end_is c) e
-    (k.invariant.3 ∙ ap₂ (λ (M : List Line) (j : ℕ). entries_of M ++ replicate (128 - j) unused) (none_left c) i)
-
-pub clear_part-requires : goal.clear_part-requires
-clear_part-requires c = let l = c.loop-i in (omega arith, omega (arith, l.invariant.1, c.requires.1.1))
+    let i : k.i ≡ length c.args.table.now = omega (arith, c.loop-i-test.false, k.auto.i-end, c.len-i-end.ensures.lines) in
+    written_back n (length c.args.table.now) c.args.table.now l k.entries k.end refl (end_is c) e
+    (k.invariant.2 ∙ ap₂ (λ (M : List Line) (j : ℕ). entries_of M ++ replicate (128 - j) unused) (none_left c) i)
 
 pub returns-then-end-used : goal.returns-then-end-used
 returns-then-end-used c =
     let l = c.loop-i in
-    λ n k. image_is (goal.at.returns-then-end-used c).After-loop-i n _ (c.clear_part.ensures ∙ ap (λ (m : List ℕ). take l.end m ++ (replicate (c.args.used - l.end) 0 ++ drop c.args.used m)) (terms_are (goal.at.returns-then-end-used c).After-loop-i)
-    ∙ cleared_now (all_terms (all (goal.at.returns-then-end-used c).After-loop-i)) c.args.terms.now c.args.used c.requires.1 l.end (end_is (goal.at.returns-then-end-used c).After-loop-i) c.if-end-used.true)
-
-pub shape_of-terms-else-end-used : goal.shape_of-terms-else-end-used
-shape_of-terms-else-end-used c = c.loop-i.invariant.1 ∙ sym c.requires.1.0
+    let x = (goal.at.returns-then-end-used c).After-loop-i in
+    let a = c.args in
+    let k : length (take (a.used - l.end) (drop l.end l.terms)) ≡ a.used - l.end = omega (arith, l.invariant.0, c.requires.1, c.if-end-used.true, length-drop l.end l.terms, length-take (a.used - l.end) (drop l.end l.terms)) in
+    let d : l.end + (a.used - l.end) ≡ a.used = omega (arith, c.if-end-used.true) in
+    let z = c.fill-then-end-used.ensures.after (λ y h. h) ∙ ap (λ (n : ℕ). replicate n 0) k in
+    λ n h. image_is x n _ (ap₂ (λ (ys r : List ℕ). take l.end l.terms ++ (ys ++ r)) z (drop-drop (a.used - l.end) l.end l.terms ∙ ap (λ (m : ℕ). drop m l.terms) d)
+    ∙ ap (λ (m : List ℕ). take l.end m ++ (replicate (a.used - l.end) 0 ++ drop a.used m)) (terms_are x)
+    ∙ cleared_now (all_terms a.table.now) a.terms.now a.used c.requires l.end (end_is x) c.if-end-used.true)
 
 pub returns-else-end-used : goal.returns-else-end-used
 returns-else-end-used c =
     let l = c.loop-i in
-    λ n k. image_is (goal.at.returns-else-end-used c).After-loop-i n _ (terms_are (goal.at.returns-else-end-used c).After-loop-i ∙ already_clear (all_terms (all (goal.at.returns-else-end-used c).After-loop-i)) c.args.terms.now c.args.used c.requires.1 l.end (end_is (goal.at.returns-else-end-used c).After-loop-i) c.if-end-used.false
-    (omega (arith, end_is (goal.at.returns-else-end-used c).After-loop-i, length_terms (all (goal.at.returns-else-end-used c).After-loop-i) (table_short c.requires.0), length_lines c.requires.0, c.requires.0.room)))
+    let N = c.args.table.now in
+    λ n k. image_is (goal.at.returns-else-end-used c).After-loop-i n _ (terms_are (goal.at.returns-else-end-used c).After-loop-i ∙ already_clear (all_terms N) c.args.terms.now c.args.used c.requires l.end (end_is (goal.at.returns-else-end-used c).After-loop-i) c.if-end-used.false
+    (omega (arith, end_is (goal.at.returns-else-end-used c).After-loop-i, length_terms N c.len-i-end.ensures.short, c.len-i-end.ensures.few, c.len-i-end.ensures.lines)))

@@ -1,17 +1,12 @@
--- `lines_fit` meets its contract. The invariant: the lines fit just if those from `i` on do, and the terms of line `i` begin at `start`.
-use mathlib.Core.Path.{◌≡◌}
-use mathlib.Core.Bool.{◌&&◌}
-use Prim.Native.Nat.{◌-◌, ◌≤◌}
-use lib.ListN.{take, drop}
+-- What is left to test: the lines that the other records count, behind the last polynomial.
+use Rattle.std.proofs.Common.{◌≡◌, ◌-◌, ◌≤◌, ◌&&◌, length, drop}
 use Rattle.configuration.specs.Configuration.{lines_fit, weights_fit}
 use Rattle.memory.specs.Memory.{read_lines}
 use Rattle.memory.specs.Places.{used_by}
+use Rattle.memory.proofs.Forms.{both_fit, chained}
 use Rattle.memory.proofs.form.lines_fit.Given as goal
 
-abbrev pub invariant-loop-i : goal.invariant-loop-i
-invariant-loop-i l = (l.i ≤ l.lines) × (l.start ≡ used_by (take l.i l.entries))
-    × ((lines_fit l.variables (drop l.i (read_lines l.lines l.terms l.entries)) && weights_fit (drop l.i (read_lines l.lines l.terms l.entries)))
-    ≡ (lines_fit l.variables (read_lines l.lines l.terms l.entries) && weights_fit (read_lines l.lines l.terms l.entries)))
-
-abbrev pub decreases-loop-i : goal.decreases-loop-i
-decreases-loop-i l = l.lines - l.i
+abbrev pub invariant-loop-entry : goal.invariant-loop-entry
+invariant-loop-entry l =
+    (used_by (drop l.entry-index l.entries) ≤ length l.rest)
+    × (chained l.variables l.last (read_lines (length l.entries - l.entry-index) l.rest (drop l.entry-index l.entries)) ≡ both_fit l.variables (read_lines (length l.entries) l.terms l.entries))
