@@ -1,7 +1,7 @@
+pub mod Chains
 pub mod Codes
 pub mod Decimals
 pub mod Lines
 pub mod Listings
 pub mod Names
 pub mod Writes
-pub mod Uses

@@ -17,7 +17,7 @@ one_byte a at v h = rw add-one (set_split a at v h)
 none_written : (a : List ℕ) (at : ℕ) → overwritten a at [] ≡ a
 none_written a at = simp unary_clauses (take-append-drop at a)
 
-overwritten_long : (a : List ℕ) (at : ℕ) (x : List ℕ) → at + length x ≤ length a → length (overwritten a at x) ≡ length a
+pub overwritten_long : (a : List ℕ) (at : ℕ) (x : List ℕ) → at + length x ≤ length a → length (overwritten a at x) ≡ length a
 overwritten_long a at x h =
     let e : length (take at a) ≡ at = length-take-le at a (omega arith) in
     simp (length-append, length-drop) (omega arith)
@@ -27,7 +27,7 @@ pub written_front : (a x : List ℕ) → take (length x) (overwritten a 0 x) ≡
 written_front a x = take_at x (drop (0 + length x) a) (length x) refl
 
 -- ---- a text behind another
-behind : (a : List ℕ) (at : ℕ) (x y : List ℕ) → at ≤ length a → overwritten (overwritten a at x) (at + length x) y ≡ overwritten a at (x ++ y)
+pub behind : (a : List ℕ) (at : ℕ) (x y : List ℕ) → at ≤ length a → overwritten (overwritten a at x) (at + length x) y ≡ overwritten a at (x ++ y)
 behind a at x y h =
     let p : List ℕ = take at a ++ x in
     let n : ℕ = at + length x in
