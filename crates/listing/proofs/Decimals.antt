@@ -37,9 +37,6 @@ pub last_digit : (n : ℕ) → 10 ≤ n → n < 2 ^ 64 → decimal n ≡ decimal
 last_digit n l h =
     more_digits 18 n l ∙ ap (λ (x : List ℕ). x ++ (decimal_digit (n % 10) ∷ [])) (sym (enough 18 (n / 10) (omega arith)))
 
-pub two_digits : (n : ℕ) → 10 ≤ n → n < 100 → decimal n ≡ decimal_digit (n / 10) ∷ decimal_digit (n % 10) ∷ []
-two_digits n l h = last_digit n l (omega arith) ∙ ap (λ (x : List ℕ). x ++ (decimal_digit (n % 10) ∷ [])) (one_digit 19 (n / 10) (omega arith))
-
 pub last_digit_length : (n : ℕ) → 10 ≤ n → n < 2 ^ 64 → length (decimal n) ≡ length (decimal (n / 10)) + 1
 last_digit_length n l h = rw (last_digit n l h) (length-append (decimal (n / 10)) (decimal_digit (n % 10) ∷ []))
 

@@ -5,3 +5,4 @@ pub mod Lines
 pub mod Listings
 pub mod Names
 pub mod Writes
+pub mod Uses

@@ -18,7 +18,7 @@ use table::order::row_at;
 use text::Writer;
 
 // The header's line of the hard polynomials, which is not there if there are none.
-#[tactic(auto, using(crate::proofs::Names::line_of_some_length))]
+#[tactic(auto, using(crate::proofs::Chains::wrote_none, crate::proofs::Names::line_of_none, crate::proofs::Names::line_of_some_length))]
 fn put_hard_line(writer: &mut Writer, hard_count: usize)
     requires { HasRoom writer.old (hard_line hard_count) }
     ensures { Wrote writer.old writer.new (hard_line hard_count) }
@@ -46,7 +46,7 @@ fn put_header(writer: &mut Writer, variables: u32, lines: usize, hard_count: usi
 }
 
 // A hard polynomial: its terms alone, or the digit 0.
-#[tactic(auto, using(crate::proofs::Names::text_of_terms_length))]
+#[tactic(auto, using(crate::proofs::Chains::wrote_as, crate::proofs::Names::text_of_zero, crate::proofs::Names::text_of_terms_length))]
 fn put_hard(writer: &mut Writer, f: &[u32])
     requires { HasRoom writer.old (hard_text f.now) }
     ensures { Wrote writer.old writer.new (hard_text f.now) }
@@ -59,6 +59,7 @@ fn put_hard(writer: &mut Writer, f: &[u32])
 }
 
 // A line.
+#[tactic(auto, using(crate::proofs::Names::line_length))]
 fn put_line(writer: &mut Writer, f: &[u32], weight: i64)
     requires { HasRoom writer.old (line_text (line f.now weight)) }
     ensures { Wrote writer.old writer.new (line_text (line f.now weight)) }

@@ -32,6 +32,7 @@ impl<'a> Writer<'a> {
     }
 
     // A number in decimal: the digits in front of the last one first.
+    #[tactic(auto, using(crate::proofs::Uses::uses_put_decimal))]
     pub fn put_decimal(&mut self, n: u64)
         requires { HasRoom self.old (decimal n) }
         ensures { Wrote self.old self.new (decimal n) }
@@ -85,6 +86,7 @@ impl<'a> Writer<'a> {
     }
 
     // A term: its variables, or the digit 1.
+    #[tactic(auto, using(crate::proofs::Chains::wrote_as, crate::proofs::Names::text_of_one, crate::proofs::Names::text_of_names))]
     fn put_term(&mut self, mask: u32)
         requires { HasRoom self.old (term_text mask) }
         ensures { Wrote self.old self.new (term_text mask) }

@@ -1,12 +1,8 @@
--- `put_hard_line` meets its contract: nothing, or its word and number one behind the other.
+-- `put_hard_line` meets its contract: its word and number one behind the other.
 use mathlib.Core.Path.{sym}
-use Rattle.listing.specs.Listing.{hard_line}
-use Rattle.listing.proofs.Chains.{wrote_as, wrote_none, wrote_then}
-use Rattle.listing.proofs.Names.{line_of_none, line_of_some}
+use Rattle.listing.proofs.Chains.{wrote_as, wrote_then}
+use Rattle.listing.proofs.Names.{line_of_some}
 use Rattle.listing.proofs.put_hard_line.Goals as goal
-
-pub returns-then-hard_count-eq0 : goal.returns-then-hard_count-eq0
-returns-then-hard_count-eq0 c = wrote_none (hard_line c.args.hard_count) (line_of_none c.args.hard_count c.if-hard_count-eq0.true) c.requires
 
 pub returns : goal.returns
 returns c =
