@@ -1,9 +1,11 @@
 // A writer of text: it puts each text behind the one before, in an area of bytes that is lent. It is for this crate and for
 // `checker`, `report` and `boundary`, which have made room.
-ghost use Rattle.std.specs.Prelude.{◌≡◌, [], ◌∷◌, ◌+◌, ◌≤◌, ◌<◌, length};
+ghost use Rattle.std.specs.Prelude.{◌≡◌, [], ◌∷◌, ◌+◌, ◌≤◌, length, take};
 ghost use Rattle.listing.specs.Listing.{decimal, weight_text, name_text, names_text, term_text, terms_text};
 ghost use Rattle.listing.specs.Writer.{HasRoom, Wrote};
 ghost use Rattle.listing.specs.Writing.{overwritten, starred};
+
+use std::marker::Model;
 
 // An area, and the place in it behind what stands.
 #[derive(Drop)]
@@ -108,6 +110,52 @@ impl<'a> Writer<'a> {
             }
             self.put_term(term);
         }
+    }
+}
+
+// A text by value: the front of its bytes.
+#[derive(Drop)]
+pub struct Text<const N: usize> {
+    bytes: [u8; N],
+    size: usize,
+}
+
+impl<const N: usize> Model for Text<N> {
+    ghost use Rattle.std.specs.Prelude.{List, ℕ, ◌≤◌, take};
+
+    ghost Value = { List ℕ };
+
+    ghost view = { λ text. take text.size text.bytes };
+
+    ghost invariant = { λ text. text.size ≤ N };
+}
+
+impl<const N: usize> Text<N> {
+    pub fn new(bytes: [u8; N], size: usize) -> Self
+        requires { size ≤ N }
+        ensures { result ≡ take size bytes.entry }
+    {
+        Text { bytes, size }
+    }
+
+    // A copy of a text that is there.
+    pub fn copy_of(text: &[u8]) -> Self
+        requires { length text.now ≤ N }
+        ensures { result ≡ text.now }
+    {
+        let mut bytes = [0u8; N];
+        bytes[..text.len()].copy_from_slice(text);
+        Text {
+            bytes,
+            size: text.len(),
+        }
+    }
+
+    pub fn as_slice(&self) -> &[u8]
+        ensures text { result.now ≡ self.now }
+        ensures room { length self.now ≤ N }
+    {
+        &self.bytes[..self.size]
     }
 }
 
