@@ -5,10 +5,10 @@ use mathlib.Core.Bool.{Bool, true, false}
 use Prim.Native.Nat.{ℕ, zero, suc, ◌+◌, ◌/◌, ◌%◌, ◌^◌, ◌≤◌, ◌<◌}
 use native.Mathlib.Nat.{mod-eq_of_lt}
 use native.Mathlib.Omega.{arith}
-use lib.Dec.{T, ltb}
+use lib.Dec.{ltb}
 use lib.IntN.{ℤ, pos, negsuc, nat_abs}
 use lib.ListN.{length, length-append}
-use lib.Signed.{mag, le_z, lt_z, non_neg}
+use lib.Signed.{lt_z}
 use borrow.Author.Tests.{ltb-true, ltb-false, lt-ltb, le-ltb}
 use Rattle.listing.specs.Words.{ascii}
 use Rattle.listing.specs.Listing.{decimal_digit, decimal_in, decimal, weight_text}
@@ -59,8 +59,3 @@ pub no_sign : (w : ℤ) → lt_z w (pos 0) ≡ false → sign w ≡ []
 unfolding sign
 no_sign (pos n) e = refl
 no_sign (negsuc n) e = cc
-
--- ---- a weight that is not negative is a number
-pub positive : (w : ℤ) → le_z (pos 0) w ≡ true → mag w < 2 ^ 63 → T (non_neg w) × (nat_abs w < 2 ^ 64) × (weight_text w ≡ decimal (nat_abs w))
-positive (pos n) e h = (tt, omega arith, refl)
-positive (negsuc n) e h = let z : ◌≡◌ {A = ℕ} 0 1 = cc in let f : ⊥ = omega arith in absurd f

@@ -162,10 +162,7 @@ pub starred_parts : (first : Bool) (name : List ℕ) → starred first name ≡ 
 starred_parts true name = refl
 starred_parts false name = refl
 
--- ---- texts one behind the other, and how long those of several parts are
-pub regroup : (a b c d e : List ℕ) → ((a ++ b) ++ c) ++ d ++ e ≡ a ++ (b ++ (c ++ (d ++ e)))
-regroup a b c d e = simp append_assoc
-
+-- ---- how long the texts of several parts are
 pub line_length : (f : List ℕ) (w : ℤ) → length (line_text (line f w)) ≡ length (weight_text w) + length (terms_text f) + 3
 unfolding line_text
 line_length f w = simp length-append (omega arith)

@@ -17,7 +17,7 @@ one_byte a at v h = rw add-one (set_split a at v h)
 none_written : (a : List ℕ) (at : ℕ) → overwritten a at [] ≡ a
 none_written a at = simp unary_clauses (take-append-drop at a)
 
-pub overwritten_long : (a : List ℕ) (at : ℕ) (x : List ℕ) → at + length x ≤ length a → length (overwritten a at x) ≡ length a
+overwritten_long : (a : List ℕ) (at : ℕ) (x : List ℕ) → at + length x ≤ length a → length (overwritten a at x) ≡ length a
 overwritten_long a at x h =
     let e : length (take at a) ≡ at = length-take-le at a (omega arith) in
     simp (length-append, length-drop) (omega arith)
@@ -68,9 +68,6 @@ all_still a at whole rest e h = record { room = h; long = rw e; kept = refl; sam
 module _ (a : List ℕ) (at : ℕ) (whole b : List ℕ) (end : ℕ) where
   pub Still-as : (x y : List ℕ) → x ≡ y → Still a at whole b end x → Still a at whole b end y
   Still-as x y e s = subst (Still a at whole b end) e s
-
-  pub rest_fits : (rest : List ℕ) → Still a at whole b end rest → end + length rest ≤ length b
-  rest_fits rest s = omega arith
 
   -- the rest is written
   pub rest_written : (rest c : List ℕ) (k : ℕ) → Still a at whole b end rest → (k ≡ end + length rest) × (c ≡ overwritten b end rest)

@@ -159,7 +159,7 @@ impl<const N: usize> Text<N> {
     }
 }
 
-// ---- the same for callers that hold an area and a place: each answers the place behind its text
+// A text that is there, for callers that hold an area and a place: it answers the place behind.
 pub fn put_bytes(out: &mut [u8], at: usize, text: &[u8]) -> usize
     requires { at + length text.now ≤ length out.old }
     ensures end { result ≡ at + length text.now }
@@ -167,25 +167,5 @@ pub fn put_bytes(out: &mut [u8], at: usize, text: &[u8]) -> usize
 {
     let mut writer = Writer { out, at };
     writer.put_bytes(text);
-    writer.at
-}
-
-pub fn put_decimal(out: &mut [u8], at: usize, n: u64) -> usize
-    requires { at + length (decimal n) ≤ length out.old }
-    ensures end { result ≡ at + length (decimal n) }
-    ensures text { out.new ≡ overwritten out.old at (decimal n) }
-{
-    let mut writer = Writer { out, at };
-    writer.put_decimal(n);
-    writer.at
-}
-
-pub fn put_weight(out: &mut [u8], at: usize, weight: i64) -> usize
-    requires { at + length (weight_text weight) ≤ length out.old }
-    ensures end { result ≡ at + length (weight_text weight) }
-    ensures text { out.new ≡ overwritten out.old at (weight_text weight) }
-{
-    let mut writer = Writer { out, at };
-    writer.put_weight(weight);
     writer.at
 }
