@@ -1,3 +1,4 @@
+pub mod Chains
 pub mod Codes
 pub mod Decimals
 pub mod Lines

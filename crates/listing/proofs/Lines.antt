@@ -1,5 +1,5 @@
 -- The text of a number: where its line stands in a table, and that it is what the listing has under that number.
-use mathlib.Core.Path.{◌≡◌, sym, ap, ◌∙◌}
+use mathlib.Core.Path.{◌≡◌, sym, ap, ap₂, ◌∙◌}
 use mathlib.Core.List.{List, [], ◌∷◌, ◌++◌, map}
 use Prim.Native.Nat.{ℕ, zero, suc, ◌+◌, ◌-◌, ◌*◌, ◌≤◌, ◌<◌}
 use native.Mathlib.Omega.{arith}
@@ -11,6 +11,8 @@ use Rattle.hard.specs.HardLaws.{AllShort}
 use Rattle.table.specs.Rows.{Table, row_of, terms_in, line_in, lines_of, Fits}
 use Rattle.table.specs.RowsLaws.{map_at, length_lines, lines_short, line_at, line_short, held_below, row_fits}
 use Rattle.listing.specs.Listing.{header_text, hard_text, line_text, text_of}
+use Rattle.listing.specs.declared.text.Writer.{Writer}
+use Rattle.listing.specs.Writer.{Wrote}
 use Rattle.listing.specs.Writing.{overwritten}
 use Rattle.listing.specs.ListingLaws.{text_short}
 
@@ -71,9 +73,9 @@ module _ (n : ℕ) (H : List (List ℕ)) {t : Table} (q : Fits 128 t) (k : ℕ) 
             ∙ ap line_text (line_at q j b (line [] (pos 0)));
       })
 
--- a text at the front of an area, in other words, and short
-pub at_front : (a x y b : List ℕ) (end : ℕ) → x ≡ y → length y ≤ 8448 → (end ≡ length x) × (b ≡ overwritten a 0 x)
-    → (end ≡ length y) × ((b ≡ overwritten a 0 y) × (end ≤ 8448))
-at_front a x y b end e h p =
-    let d : end ≡ length y = p.0 ∙ ap length e in
-    (d, (p.1 ∙ ap (overwritten a 0) e, omega arith))
+-- a text that a writer put at the front of its area, in other words, and short
+pub at_front : {a b : Writer} {x : List ℕ} (y : List ℕ) → x ≡ y → length y ≤ 8448 → a.at ≡ 0 → Wrote a b x
+    → (b.at ≡ length y) × ((b.out.now ≡ overwritten a.out.now 0 y) × (b.at ≤ 8448))
+at_front {a} {b} y e h z w =
+    let d : b.at ≡ length y = omega (arith, w.end, ap length e) in
+    (d, (w.bytes ∙ ap₂ (overwritten a.out.now) z e, omega arith))

@@ -7,7 +7,7 @@ use native.Mathlib.Numerals.{add-one}
 use native.Mathlib.Omega.{arith}
 use native.Mathlib.Nat.{not-suc-le-zero, suc-ne-zero, pow-suc, pow-succ', div-one, div-div-eq-div-mul}
 use lib.Count.{count_trailing_zeros, under}
-use lib.ListN.{length, get_or, drop, drop_of_length-le}
+use lib.ListN.{length, length-append, get_or, drop, drop_of_length-le}
 use lib.Seq.{drop-cons}
 use lib.IntN.{ℤ}
 use borrow.Author.Tests.{eq-eqb, ne_eqb}
@@ -157,20 +157,19 @@ pub text_of_names : (t : ℕ) → (t ≡ 0 → ⊥) → term_text t ≡ names_te
 unfolding term_text
 text_of_names t e = rw (ne_eqb t 0 e)
 
--- ---- a line and the header, in the order in which they are written
-pub regroup : (a b c d e : List ℕ) → ((a ++ b) ++ c) ++ d ++ e ≡ a ++ (b ++ (c ++ (d ++ e)))
-regroup a b c d e = simp append_assoc
+-- ---- a name, behind an asterisk or not
+pub starred_parts : (first : Bool) (name : List ℕ) → starred first name ≡ starred first [] ++ name
+starred_parts true name = refl
+starred_parts false name = refl
 
-pub line_parts : (f : List ℕ) (w : ℤ) → line_text (line f w) ≡ weight_text w ++ (ascii ": " ++ (terms_text f ++ ascii "\n"))
+-- ---- how long the texts of several parts are
+pub line_length : (f : List ℕ) (w : ℤ) → length (line_text (line f w)) ≡ length (weight_text w) + length (terms_text f) + 3
 unfolding line_text
-line_parts f w = simp append_assoc
+line_length f w = simp length-append (omega arith)
 
-pub header_parts : (n c k : ℕ)
-    → header_text n c k ≡ ascii "variables " ++ (decimal n ++ (ascii "\nlines " ++ (decimal c ++ (ascii "\n" ++ hard_line k))))
+pub header_length : (n c k : ℕ) → length (header_text n c k) ≡ length (decimal n) + length (decimal c) + length (hard_line k) + 18
 unfolding header_text
-header_parts n c k =
-    append_assoc (ascii "variables " ++ decimal n ++ ascii "\nlines " ++ decimal c) (ascii "\n") (hard_line k)
-    ∙ regroup (ascii "variables ") (decimal n) (ascii "\nlines ") (decimal c) (ascii "\n" ++ hard_line k)
+header_length n c k = simp length-append (omega arith)
 
 -- ---- hard polynomials: the line that counts them, and one of them
 pub line_of_none : (k : ℕ) → k ≡ 0 → hard_line k ≡ []
@@ -178,10 +177,13 @@ unfolding hard_line
 line_of_none zero e = refl
 line_of_none (suc k) e = absurd (suc-ne-zero k e)
 
-pub line_of_some : (k : ℕ) → (k ≡ 0 → ⊥) → hard_line k ≡ ascii "hard " ++ (decimal k ++ ascii "\n")
+pub line_of_some : (k : ℕ) → (k ≡ 0 → ⊥) → hard_line k ≡ ascii "hard " ++ decimal k ++ ascii "\n"
 unfolding hard_line
 line_of_some zero z = absurd (z refl)
-line_of_some (suc k) z = append_assoc (ascii "hard ") (decimal (suc k)) (ascii "\n")
+line_of_some (suc k) z = refl
+
+pub line_of_some_length : (k : ℕ) → (k ≡ 0 → ⊥) → length (hard_line k) ≡ length (decimal k) + 6
+line_of_some_length k z = rw (line_of_some k z) (simp length-append (omega arith))
 
 pub text_of_zero : (f : List ℕ) → length f ≡ 0 → hard_text f ≡ ascii "0\n"
 unfolding hard_text
@@ -192,3 +194,6 @@ pub text_of_terms : (f : List ℕ) → (length f ≡ 0 → ⊥) → hard_text f 
 unfolding hard_text
 text_of_terms [] z = absurd (z refl)
 text_of_terms (t ∷ f) z = refl
+
+pub text_of_terms_length : (f : List ℕ) → (length f ≡ 0 → ⊥) → length (hard_text f) ≡ length (terms_text f) + 1
+text_of_terms_length f z = rw (text_of_terms f z) (length-append (terms_text f) (ascii "\n"))

@@ -1,5 +1,5 @@
--- The lemmas that the check tries at the goals of each function.
-use Rattle.listing.proofs.Names.{line_of_none, line_of_some}
-use Rattle.listing.proofs.Writes.{all_still, next_fits, next_written, none_left, rest_fits, rest_written}
+-- The lemmas that the check tries at the goals of a function, where they are too many for its attribute.
+use Rattle.listing.proofs.Chains.{wrote_as, wrote_then}
+use Rattle.listing.proofs.Decimals.{one_digit, last_digit, last_digit_length}
 
-pub ruleset uses_put_hard_line = (line_of_none, line_of_some, all_still, next_fits, next_written, rest_fits, rest_written, none_left)
+pub ruleset uses_put_decimal = (wrote_as, wrote_then, one_digit, last_digit, last_digit_length)

@@ -27,7 +27,7 @@ pub written_front : (a x : List ℕ) → take (length x) (overwritten a 0 x) ≡
 written_front a x = take_at x (drop (0 + length x) a) (length x) refl
 
 -- ---- a text behind another
-behind : (a : List ℕ) (at : ℕ) (x y : List ℕ) → at ≤ length a → overwritten (overwritten a at x) (at + length x) y ≡ overwritten a at (x ++ y)
+pub behind : (a : List ℕ) (at : ℕ) (x y : List ℕ) → at ≤ length a → overwritten (overwritten a at x) (at + length x) y ≡ overwritten a at (x ++ y)
 behind a at x y h =
     let p : List ℕ = take at a ++ x in
     let n : ℕ = at + length x in
@@ -68,9 +68,6 @@ all_still a at whole rest e h = record { room = h; long = rw e; kept = refl; sam
 module _ (a : List ℕ) (at : ℕ) (whole b : List ℕ) (end : ℕ) where
   pub Still-as : (x y : List ℕ) → x ≡ y → Still a at whole b end x → Still a at whole b end y
   Still-as x y e s = subst (Still a at whole b end) e s
-
-  pub rest_fits : (rest : List ℕ) → Still a at whole b end rest → end + length rest ≤ length b
-  rest_fits rest s = omega arith
 
   -- the rest is written
   pub rest_written : (rest c : List ℕ) (k : ℕ) → Still a at whole b end rest → (k ≡ end + length rest) × (c ≡ overwritten b end rest)

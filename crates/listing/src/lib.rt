@@ -9,65 +9,65 @@ ghost use Rattle.configuration.specs.Configuration.{line};
 ghost use Rattle.hard.specs.Working.{hard_in, HardFits};
 ghost use Rattle.table.specs.Rows.{table_at, lines_of, Fits};
 ghost use Rattle.listing.specs.Listing.{hard_line, header_text, hard_text, line_text, text_of, listing_of};
+ghost use Rattle.listing.specs.Writer.{HasRoom, Wrote};
 ghost use Rattle.listing.specs.Writing.{overwritten};
 
 use hard::{number_of, polynomial_at};
 use table::lines::row;
 use table::order::row_at;
-use text::{put_bytes, put_decimal, put_terms, put_weight};
+use text::Writer;
 
 // The header's line of the hard polynomials, which is not there if there are none.
-#[tactic(auto, using(crate::proofs::Uses::uses_put_hard_line))]
-fn put_hard_line(out: &mut [u8], at: usize, hard_count: usize) -> usize
-    requires { at + length (hard_line hard_count) ≤ length out.old }
-    ensures end { result ≡ at + length (hard_line hard_count) }
-    ensures text { out.new ≡ overwritten out.old at (hard_line hard_count) }
+#[tactic(auto, using(crate::proofs::Chains::wrote_none, crate::proofs::Names::line_of_none, crate::proofs::Names::line_of_some_length))]
+fn put_hard_line(writer: &mut Writer, hard_count: usize)
+    requires { HasRoom writer.old (hard_line hard_count) }
+    ensures { Wrote writer.old writer.new (hard_line hard_count) }
 {
     if hard_count == 0 {
-        return at;
+        return;
     }
-    let named = put_bytes(out, at, b"hard ");
-    let counted = put_decimal(out, named, hard_count as u64);
-    put_bytes(out, counted, b"\n")
+    writer.put_bytes(b"hard ");
+    writer.put_decimal(hard_count as u64);
+    writer.put_byte(b'\n');
 }
 
-// The lines of the header, at the front of the bytes.
-fn put_header(out: &mut [u8], variables: u32, lines: usize, hard_count: usize) -> usize
-    requires { 8448 ≤ length out.old }
-    ensures end { result ≡ length (header_text variables lines hard_count) }
-    ensures text { out.new ≡ overwritten out.old 0 (header_text variables lines hard_count) }
+// The lines of the header.
+#[tactic(auto, using(crate::proofs::Names::header_length))]
+fn put_header(writer: &mut Writer, variables: u32, lines: usize, hard_count: usize)
+    requires { HasRoom writer.old (header_text variables lines hard_count) }
+    ensures { Wrote writer.old writer.new (header_text variables lines hard_count) }
 {
-    let named = put_bytes(out, 0, b"variables ");
-    let numbered = put_decimal(out, named, variables as u64);
-    let second = put_bytes(out, numbered, b"\nlines ");
-    let counted = put_decimal(out, second, lines as u64);
-    let third = put_bytes(out, counted, b"\n");
-    put_hard_line(out, third, hard_count)
+    writer.put_bytes(b"variables ");
+    writer.put_decimal(variables as u64);
+    writer.put_bytes(b"\nlines ");
+    writer.put_decimal(lines as u64);
+    writer.put_byte(b'\n');
+    put_hard_line(writer, hard_count);
 }
 
-// A hard polynomial, at the front of the bytes: its terms alone, or the digit 0.
-fn put_hard(out: &mut [u8], f: &[u32]) -> usize
-    requires { (8448 ≤ length out.old) × (length f.now ≤ 64) }
-    ensures end { result ≡ length (hard_text f.now) }
-    ensures text { out.new ≡ overwritten out.old 0 (hard_text f.now) }
+// A hard polynomial: its terms alone, or the digit 0.
+#[tactic(auto, using(crate::proofs::Chains::wrote_as, crate::proofs::Names::text_of_zero, crate::proofs::Names::text_of_terms_length))]
+fn put_hard(writer: &mut Writer, f: &[u32])
+    requires { HasRoom writer.old (hard_text f.now) }
+    ensures { Wrote writer.old writer.new (hard_text f.now) }
 {
-    if f.len() == 0 {
-        return put_bytes(out, 0, b"0\n");
+    if f.is_empty() {
+        return writer.put_bytes(b"0\n");
     }
-    let ended = put_terms(out, 0, f);
-    put_bytes(out, ended, b"\n")
+    writer.put_terms(f);
+    writer.put_byte(b'\n');
 }
 
-// A line, at the front of the bytes.
-fn put_line(out: &mut [u8], f: &[u32], weight: i64) -> usize
-    requires { (8448 ≤ length out.old) × (length f.now ≤ 64) }
-    ensures end { result ≡ length (line_text (line f.now weight)) }
-    ensures text { out.new ≡ overwritten out.old 0 (line_text (line f.now weight)) }
+// A line.
+#[tactic(auto, using(crate::proofs::Names::line_length))]
+fn put_line(writer: &mut Writer, f: &[u32], weight: i64)
+    requires { HasRoom writer.old (line_text (line f.now weight)) }
+    ensures { Wrote writer.old writer.new (line_text (line f.now weight)) }
 {
-    let weighed = put_weight(out, 0, weight);
-    let parted = put_bytes(out, weighed, b": ");
-    let ended = put_terms(out, parted, f);
-    put_bytes(out, ended, b"\n")
+    writer.put_weight(weight);
+    writer.put_bytes(b": ");
+    writer.put_terms(f);
+    writer.put_byte(b'\n');
 }
 
 // The text of a number, at the front of the bytes: 0 is the header, then come the hard polynomials, numbered from 1, and behind
@@ -92,16 +92,20 @@ pub fn put_text(
     ensures room { result ≤ 8448 }
 {
     let hard_count = number_of(hard);
+    let mut writer = Writer { out, at: 0 };
     if number == 0 {
-        return put_header(out, variables, lines, hard_count);
+        put_header(&mut writer, variables, lines, hard_count);
+        return writer.at;
     }
     if number <= hard_count {
-        return put_hard(out, polynomial_at(hard, number - 1));
+        put_hard(&mut writer, polynomial_at(hard, number - 1));
+        return writer.at;
     }
     let line = number - hard_count;
     let here = row_at(order, line - 1);
     let count = counts[here] as usize;
-    put_line(out, row(terms, here, count), weights[here])
+    put_line(&mut writer, row(terms, here, count), weights[here]);
+    writer.at
 }
 
 // The whole listing, from a place in the bytes on, text by text. It is for the crate `report`, whose tables and hard lists fit.

@@ -10,13 +10,14 @@ ghost use Rattle.hard.specs.Working.{hard_in, HardFits};
 ghost use Rattle.table.specs.Rows.{table_at, lines_of, Fits};
 ghost use Rattle.problem.specs.Problem.{told_of_filing};
 ghost use Rattle.derivation.specs.Derivation.{told_of_check};
+ghost use Rattle.listing.specs.Writer.{HasRoom, Wrote};
 ghost use Rattle.listing.specs.Writing.{overwritten};
 ghost use Rattle.report.specs.Report.{refusal_text, confirmed_text, filing_text, verdict_text, code_text, report_text, code_output, check_output, code_of_file, check_into, line_of};
 
 use derivation::{CheckAnswer, check_derivation};
 use listing::code::code_of;
 use listing::put_listing;
-use listing::text::{put_bytes, put_decimal, put_weight};
+use listing::text::{Writer, put_bytes};
 use problem::{FilingAnswer, file_problem};
 use refusal::{Reason, number};
 use table::order::fresh_order;
@@ -37,55 +38,80 @@ pub fn held(text: Text) -> usize
     if size < 64 { size } else { 64 }
 }
 
-// What was refused and where, from a place in the bytes on.
-fn put_refusal(out: &mut [u8], at: usize, place: u64, reason: Reason) -> usize
-    requires { at + length (refusal_text (refusal_of reason) place) ≤ length out.old }
-    ensures end { result ≡ at + length (refusal_text (refusal_of reason) place) }
-    ensures text { out.new ≡ overwritten out.old at (refusal_text (refusal_of reason) place) }
+// What was refused and where.
+#[tactic(auto, using(crate::proofs::Texts::refusal_length))]
+fn put_refusal(writer: &mut Writer, place: u64, reason: Reason)
+    requires { HasRoom writer.old (refusal_text (refusal_of reason) place) }
+    ensures { Wrote writer.old writer.new (refusal_text (refusal_of reason) place) }
 {
     let kind = number(reason) as u64;
-    let said = put_bytes(out, at, b"refused ");
-    let numbered = put_decimal(out, said, kind);
-    let placed = put_bytes(out, numbered, b" at record ");
-    let counted = put_decimal(out, placed, place);
-    put_bytes(out, counted, b"\n")
+    writer.put_bytes(b"refused ");
+    writer.put_decimal(kind);
+    writer.put_bytes(b" at record ");
+    writer.put_decimal(place);
+    writer.put_byte(b'\n');
 }
 
-// A confirmed claim and the degree, from the front of the bytes.
-fn put_confirmation(out: &mut [u8], claim: i64, degree: u32) -> usize
-    requires { length (confirmed_text claim degree) ≤ length out.old }
-    ensures end { result ≡ length (confirmed_text claim degree) }
-    ensures text { out.new ≡ overwritten out.old 0 (confirmed_text claim degree) }
+// A confirmed claim and the degree.
+#[tactic(auto, using(crate::proofs::Texts::confirmed_length))]
+fn put_confirmation(writer: &mut Writer, claim: i64, degree: u32)
+    requires { HasRoom writer.old (confirmed_text claim degree) }
+    ensures { Wrote writer.old writer.new (confirmed_text claim degree) }
 {
-    let said = put_bytes(out, 0, b"confirmed ");
-    let claimed = put_weight(out, said, claim);
-    let named = put_bytes(out, claimed, b" degree ");
-    let counted = put_decimal(out, named, degree as u64);
-    put_bytes(out, counted, b"\n")
+    writer.put_bytes(b"confirmed ");
+    writer.put_weight(claim);
+    writer.put_bytes(b" degree ");
+    writer.put_decimal(degree as u64);
+    writer.put_byte(b'\n');
 }
 
 // The line of a filing: nothing where it is accepted.
+fn put_filing(writer: &mut Writer, answer: FilingAnswer)
+    requires { HasRoom writer.old (filing_text (told_of_filing answer)) }
+    ensures { Wrote writer.old writer.new (filing_text (told_of_filing answer)) }
+{
+    if let FilingAnswer::Refused(place, reason) = answer {
+        writer.put_bytes(b"problem ");
+        put_refusal(writer, place, reason);
+    }
+}
+
+#[tactic(auto, using(crate::proofs::Texts::filing_short))]
 fn filing_line(answer: FilingAnswer) -> Text
     ensures { result ≡ line_of (filing_text (told_of_filing answer)) }
 {
     let mut bytes = [0u8; 64];
-    let mut size: usize = 0;
-    if let FilingAnswer::Refused(place, reason) = answer {
-        let at = put_bytes(&mut bytes, 0, b"problem ");
-        size = put_refusal(&mut bytes, at, place, reason);
-    }
+    let mut writer = Writer {
+        out: &mut bytes,
+        at: 0,
+    };
+    put_filing(&mut writer, answer);
+    let size = writer.at;
     Text { bytes, size }
 }
 
 // The verdict on a derivation.
+fn put_verdict(writer: &mut Writer, answer: CheckAnswer)
+    requires { HasRoom writer.old (verdict_text (told_of_check answer)) }
+    ensures { Wrote writer.old writer.new (verdict_text (told_of_check answer)) }
+{
+    match answer {
+        CheckAnswer::Confirmed(claim, degree) => put_confirmation(writer, claim, degree),
+        CheckAnswer::Refused(place, reason) => put_refusal(writer, place, reason),
+    }
+}
+
+#[tactic(auto, using(crate::proofs::Texts::verdict_short))]
 pub fn verdict_line(answer: CheckAnswer) -> Text
     ensures { result ≡ line_of (verdict_text (told_of_check answer)) }
 {
     let mut bytes = [0u8; 64];
-    let size = match answer {
-        CheckAnswer::Confirmed(claim, degree) => put_confirmation(&mut bytes, claim, degree),
-        CheckAnswer::Refused(place, reason) => put_refusal(&mut bytes, 0, place, reason),
+    let mut writer = Writer {
+        out: &mut bytes,
+        at: 0,
     };
+    put_verdict(&mut writer, answer);
+    let size = writer.at;
     Text { bytes, size }
 }
 
@@ -96,8 +122,13 @@ fn code_line(code: u64) -> Text
     let mut digits = [0u8; 16];
     let count = io::hex(code, 16, &mut digits);
     let mut bytes = [0u8; 64];
-    let end = put_bytes(&mut bytes, 0, &digits[..count]);
-    let size = put_bytes(&mut bytes, end, b"\n");
+    let mut writer = Writer {
+        out: &mut bytes,
+        at: 0,
+    };
+    writer.put_bytes(&digits[..count]);
+    writer.put_byte(b'\n');
+    let size = writer.at;
     Text { bytes, size }
 }
 
@@ -141,7 +172,9 @@ fn put_line(out: &mut [u8], at: usize, line: Text) -> usize
 {
     let size = held(line);
     let bytes = line.bytes;
-    put_bytes(out, at, &bytes[..size])
+    let end = at + size;
+    out[at..end].copy_from_slice(&bytes[..size]);
+    end
 }
 
 // The listing before, the listing after and the verdict on a derivation's bytes, as one text at the front of the bytes: the lines
@@ -221,7 +254,8 @@ fn said(text: &[u8]) -> Text
     ensures { result ≡ line_of text.now }
 {
     let mut bytes = [0u8; 64];
-    let size = put_bytes(&mut bytes, 0, text);
+    let size = text.len();
+    bytes[..size].copy_from_slice(text);
     Text { bytes, size }
 }
 

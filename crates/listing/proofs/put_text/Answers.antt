@@ -1,18 +1,20 @@
 -- `put_text` meets its contract: the header, or the hard polynomial or the line of the number.
-use mathlib.Core.Path.{sym, ap, ap₂, ◌∙◌}
+use mathlib.Core.Path.{refl, sym, ap, ap₂, ◌∙◌}
 use mathlib.Core.List.{List}
 use Prim.Native.Nat.{ℕ, ◌-◌, ◌≤◌, ◌<◌}
 use native.Mathlib.Omega.{arith}
+use borrow.Author.Rules.{rules}
 use lib.IntN.{ℤ, pos}
 use lib.ListN.{length, get_or}
 use mir.Syntax.{w64}
-use mir.Val.{to_z, of_z}
+use mir.Val.{SFits, to_z, of_z}
 use mir.Facts.{to_z-of_z}
 use Rattle.configuration.specs.Configuration.{line}
 use Rattle.hard.specs.Working.{hard_in}
 use Rattle.hard.specs.WorkingLaws.{run_short}
 use Rattle.table.specs.Rows.{Table, table_at, lines_of}
 use Rattle.listing.specs.Listing.{header_text, hard_text, line_text, text_of}
+use Rattle.listing.specs.ListingLaws.{header_short, hard_text_short, line_text_short}
 use Rattle.listing.proofs.Lines.{hard_few, Here, short, header_there, hard_there, line_there, at_front}
 use Rattle.listing.proofs.put_text.Goals as goal
 use Rattle.listing.proofs.put_text.Goals.{After-row_at-here, Else-number-hard_count, Start}
@@ -52,31 +54,16 @@ pub number_of-hard_count-requires : goal.number_of-hard_count-requires
 number_of-hard_count-requires c = c.requires.0
 
 pub put_header-requires : goal.put_header-requires
-put_header-requires c = c.requires.3
+put_header-requires c = let a = c.args in omega (arith, c.requires.3, header_short a.variables a.lines c.number_of-hard_count.result)
 
-pub returns-then-number-eq0-clause-end : goal.returns-then-number-eq0-clause-end
-returns-then-number-eq0-clause-end c =
+pub returns-then-number-eq0 : goal.returns-then-number-eq0
+returns-then-number-eq0 c =
     let a = c.args in
-    let h = c.put_header in
-    (at_front a.out.now (header_text a.variables a.lines c.number_of-hard_count.result) (text (goal.at.returns-then-number-eq0-clause-end c).Start) h.new.out h.result
-    (ap (header_text a.variables a.lines) c.number_of-hard_count.ensures ∙ sym (header_there a.variables (held (goal.at.returns-then-number-eq0-clause-end c).Start) c.requires.1 a.number c.if-number-eq0.true))
-    (text_within (goal.at.returns-then-number-eq0-clause-end c).Start) (h.ensures.end, h.ensures.text)).0
-
-pub returns-then-number-eq0-clause-text : goal.returns-then-number-eq0-clause-text
-returns-then-number-eq0-clause-text c =
-    let a = c.args in
-    let h = c.put_header in
-    (at_front a.out.now (header_text a.variables a.lines c.number_of-hard_count.result) (text (goal.at.returns-then-number-eq0-clause-text c).Start) h.new.out h.result
-    (ap (header_text a.variables a.lines) c.number_of-hard_count.ensures ∙ sym (header_there a.variables (held (goal.at.returns-then-number-eq0-clause-text c).Start) c.requires.1 a.number c.if-number-eq0.true))
-    (text_within (goal.at.returns-then-number-eq0-clause-text c).Start) (h.ensures.end, h.ensures.text)).1.0
-
-pub returns-then-number-eq0-clause-room : goal.returns-then-number-eq0-clause-room
-returns-then-number-eq0-clause-room c =
-    let a = c.args in
-    let h = c.put_header in
-    (at_front a.out.now (header_text a.variables a.lines c.number_of-hard_count.result) (text (goal.at.returns-then-number-eq0-clause-room c).Start) h.new.out h.result
-    (ap (header_text a.variables a.lines) c.number_of-hard_count.ensures ∙ sym (header_there a.variables (held (goal.at.returns-then-number-eq0-clause-room c).Start) c.requires.1 a.number c.if-number-eq0.true))
-    (text_within (goal.at.returns-then-number-eq0-clause-room c).Start) (h.ensures.end, h.ensures.text)).1.1
+    let s = (goal.at.returns-then-number-eq0 c).Start in
+    let e = at_front (text s)
+    (ap (header_text a.variables a.lines) c.number_of-hard_count.ensures ∙ sym (header_there a.variables (held s) c.requires.1 a.number c.if-number-eq0.true))
+    (text_within s) refl c.put_header.ensures in
+    record { end = e.0; text = search (rules, e.1.0); room = e.1.1 }
 
 pub polynomial_at-requires : goal.polynomial_at-requires
 polynomial_at-requires c =
@@ -84,34 +71,19 @@ polynomial_at-requires c =
 
 pub put_hard-requires : goal.put_hard-requires
 put_hard-requires c =
-    (c.requires.3, rw c.polynomial_at.ensures (hard_few (c.args.number - 1) (held (goal.at.put_hard-requires c).Start) (run_short c.args.hard.now c.requires.0)))
+    let few : length c.polynomial_at.result.now ≤ 64 =
+    rw c.polynomial_at.ensures (hard_few (c.args.number - 1) (held (goal.at.put_hard-requires c).Start) (run_short c.args.hard.now c.requires.0)) in
+    omega (arith, c.requires.3, hard_text_short c.polynomial_at.result.now few)
 
-pub returns-then-number-hard_count-clause-end : goal.returns-then-number-hard_count-clause-end
-returns-then-number-hard_count-clause-end c =
+pub returns-then-number-hard_count : goal.returns-then-number-hard_count
+returns-then-number-hard_count c =
     let a = c.args in
-    let h = c.put_hard in
-    (at_front a.out.now (hard_text c.polynomial_at.result.now) (text (goal.at.returns-then-number-hard_count-clause-end c).Start) h.new.out h.result
+    let s = (goal.at.returns-then-number-hard_count c).Start in
+    let e = at_front (text s)
     (ap hard_text c.polynomial_at.ensures
-    ∙ sym (hard_there a.variables (held (goal.at.returns-then-number-hard_count-clause-end c).Start) c.requires.1 a.number c.if-number-eq0.false (omega (arith, c.number_of-hard_count.ensures, c.if-number-hard_count.true))))
-    (text_within (goal.at.returns-then-number-hard_count-clause-end c).Start) (h.ensures.end, h.ensures.text)).0
-
-pub returns-then-number-hard_count-clause-text : goal.returns-then-number-hard_count-clause-text
-returns-then-number-hard_count-clause-text c =
-    let a = c.args in
-    let h = c.put_hard in
-    (at_front a.out.now (hard_text c.polynomial_at.result.now) (text (goal.at.returns-then-number-hard_count-clause-text c).Start) h.new.out h.result
-    (ap hard_text c.polynomial_at.ensures
-    ∙ sym (hard_there a.variables (held (goal.at.returns-then-number-hard_count-clause-text c).Start) c.requires.1 a.number c.if-number-eq0.false (omega (arith, c.number_of-hard_count.ensures, c.if-number-hard_count.true))))
-    (text_within (goal.at.returns-then-number-hard_count-clause-text c).Start) (h.ensures.end, h.ensures.text)).1.0
-
-pub returns-then-number-hard_count-clause-room : goal.returns-then-number-hard_count-clause-room
-returns-then-number-hard_count-clause-room c =
-    let a = c.args in
-    let h = c.put_hard in
-    (at_front a.out.now (hard_text c.polynomial_at.result.now) (text (goal.at.returns-then-number-hard_count-clause-room c).Start) h.new.out h.result
-    (ap hard_text c.polynomial_at.ensures
-    ∙ sym (hard_there a.variables (held (goal.at.returns-then-number-hard_count-clause-room c).Start) c.requires.1 a.number c.if-number-eq0.false (omega (arith, c.number_of-hard_count.ensures, c.if-number-hard_count.true))))
-    (text_within (goal.at.returns-then-number-hard_count-clause-room c).Start) (h.ensures.end, h.ensures.text)).1.1
+    ∙ sym (hard_there a.variables (held s) c.requires.1 a.number c.if-number-eq0.false (omega (arith, c.number_of-hard_count.ensures, c.if-number-hard_count.true))))
+    (text_within s) refl c.put_hard.ensures in
+    record { end = e.0; text = search (rules, e.1.0); room = e.1.1 }
 
 pub row_at-here-requires : goal.row_at-here-requires
 row_at-here-requires c =
@@ -132,34 +104,14 @@ bounds-weights-here c = (here (goal.at.bounds-weights-here c).After-row_at-here)
 
 pub put_line-requires : goal.put_line-requires
 put_line-requires c =
-    (c.requires.3, rw c.row.ensures (here (goal.at.put_line-requires c).After-row_at-here).few)
+    let few : length c.row.result.now ≤ 64 = rw c.row.ensures (here (goal.at.put_line-requires c).After-row_at-here).few in
+    omega (arith, c.requires.3, line_text_short c.row.result.now (to_z w64 (of_z w64 (amount (goal.at.put_line-requires c).After-row_at-here))) few)
 
-pub returns-clause-end : goal.returns-clause-end
-returns-clause-end c =
-    let a = c.args in
-    let h = c.put_line in
-    let w : ℤ = to_z w64 (of_z w64 (amount (goal.at.returns-clause-end c).After-row_at-here)) in
-    (at_front a.out.now (line_text (line c.row.result.now w)) (text (goal.at.returns-clause-end c).Start) h.new.out h.result
-    (ap₂ (λ (x : List ℕ) (y : ℤ). line_text (line x y)) c.row.ensures (to_z-of_z {w = w64} {z = amount (goal.at.returns-clause-end c).After-row_at-here} (record { sfits = c.put_line-arg-2-1.given }))
-    ∙ sym (here (goal.at.returns-clause-end c).After-row_at-here).text)
-    (text_within (goal.at.returns-clause-end c).Start) (h.ensures.end, h.ensures.text)).0
-
-pub returns-clause-text : goal.returns-clause-text
-returns-clause-text c =
-    let a = c.args in
-    let h = c.put_line in
-    let w : ℤ = to_z w64 (of_z w64 (amount (goal.at.returns-clause-text c).After-row_at-here)) in
-    (at_front a.out.now (line_text (line c.row.result.now w)) (text (goal.at.returns-clause-text c).Start) h.new.out h.result
-    (ap₂ (λ (x : List ℕ) (y : ℤ). line_text (line x y)) c.row.ensures (to_z-of_z {w = w64} {z = amount (goal.at.returns-clause-text c).After-row_at-here} (record { sfits = c.put_line-arg-2-1.given }))
-    ∙ sym (here (goal.at.returns-clause-text c).After-row_at-here).text)
-    (text_within (goal.at.returns-clause-text c).Start) (h.ensures.end, h.ensures.text)).1.0
-
-pub returns-clause-room : goal.returns-clause-room
-returns-clause-room c =
-    let a = c.args in
-    let h = c.put_line in
-    let w : ℤ = to_z w64 (of_z w64 (amount (goal.at.returns-clause-room c).After-row_at-here)) in
-    (at_front a.out.now (line_text (line c.row.result.now w)) (text (goal.at.returns-clause-room c).Start) h.new.out h.result
-    (ap₂ (λ (x : List ℕ) (y : ℤ). line_text (line x y)) c.row.ensures (to_z-of_z {w = w64} {z = amount (goal.at.returns-clause-room c).After-row_at-here} (record { sfits = c.put_line-arg-2-1.given }))
-    ∙ sym (here (goal.at.returns-clause-room c).After-row_at-here).text)
-    (text_within (goal.at.returns-clause-room c).Start) (h.ensures.end, h.ensures.text)).1.1
+pub returns : goal.returns
+returns c =
+    let s = (goal.at.returns c).Start in
+    let h = here (goal.at.returns c).After-row_at-here in
+    let w : ℤ = amount (goal.at.returns c).After-row_at-here in
+    let f : SFits w64 w = search rules in
+    let e = at_front (text s) (ap₂ (λ (x : List ℕ) (y : ℤ). line_text (line x y)) c.row.ensures (to_z-of_z f) ∙ sym h.text) (text_within s) refl c.put_line.ensures in
+    record { end = e.0; text = search (rules, e.1.0); room = e.1.1 }
