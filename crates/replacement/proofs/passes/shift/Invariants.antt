@@ -1,12 +1,10 @@
--- `shift` meets its contract. The invariant: the first `i` places are shifted, and the others are still zero.
+-- `shift` meets its contract. The invariant: those before the place are moved, and the others will be, past the lines that are gone.
 use mathlib.Core.Path.{◌≡◌}
-use Prim.Native.Nat.{◌-◌, ◌≤◌}
-use lib.ListN.{length}
-use Rattle.replacement.proofs.Foldings.{Shifting}
+use mathlib.Core.List.{◌++◌}
+use Prim.Native.Nat.{◌≤◌}
+use lib.ListN.{take, drop}
+use Rattle.replacement.specs.Replacing.{moved_down}
 use Rattle.replacement.proofs.passes.shift.Given as goal
 
-abbrev pub invariant-loop-i : goal.invariant-loop-i
-invariant-loop-i l = (l.i ≤ length l.after) × (length l.after ≤ 4) × (length l.places ≡ 4) × (l.gone ≤ l.i) × Shifting l.after l.places l.gone l.i l.shifted
-
-abbrev pub decreases-loop-i : goal.decreases-loop-i
-decreases-loop-i l = length l.after - l.i
+abbrev pub invariant-loop-w : goal.invariant-loop-w
+invariant-loop-w l = (l.gone ≤ l.w-index) × (take l.w-index l.weighed ++ moved_down l.gone (drop l.w-index l.weighed) ≡ moved_down 0 l.initial.weighed)
