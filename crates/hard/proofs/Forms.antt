@@ -1,5 +1,5 @@
 -- The steps of the test 'well formed' of a hard list, over plain lists: one row and the rest, and what is behind the last.
-use Rattle.std.proofs.Common.{◌≡◌, sym, ap, ap₂, ◌∙◌, Bool, true, false, ◌&&◌, List, ℕ, suc, ◌+◌, ◌-◌, ◌*◌, ◌<◌, add-one, arith, length, get_or, take, drop, drop-cons, drop-drop, length-drop}
+use Rattle.std.proofs.Common.{◌≡◌, sym, ap, ◌∙◌, Bool, true, false, ◌&&◌, List, ℕ, suc, ◌+◌, ◌-◌, ◌*◌, ◌<◌, add-one, arith, length, get_or, take, drop, drop-cons, drop-drop, length-drop}
 use Rattle.std.proofs.Math.Seq.{take_all}
 use Rattle.configuration.specs.Area.{zeros}
 use Rattle.hard.specs.Hard.{row_formed, rows_formed}
@@ -21,11 +21,16 @@ module _ (n k i : ℕ) (cs ps : List ℕ) (whole : Bool) (inv : rows_formed n (k
     row_good x = sym (rw x at next_row)
 
   -- the tests of what is behind the last row
-  module _ (e : i ≡ k) (x y : Bool) (s : x ≡ zeros (take (length cs - k) (drop k cs))) (t : y ≡ zeros (take (length ps - 64 * k) (drop (64 * k) ps))) where
-    pub rows_end : (x && y) ≡ whole
+  module _ (e : i ≡ k) (x : Bool) (s : x ≡ zeros (take (length cs - k) (drop k cs))) where
+    ended : (x && zeros (drop (64 * k) ps)) ≡ whole
     unfolding rows_formed
-    rows_end =
+    ended =
         let z : k - k ≡ 0 = omega arith in
         let c : x ≡ zeros (drop k cs) = s ∙ ap zeros (take_all (length cs - k) (drop k cs) (omega (arith, length-drop k cs))) in
-        let p : y ≡ zeros (drop (64 * k) ps) = t ∙ ap zeros (take_all (length ps - 64 * k) (drop (64 * k) ps) (omega (arith, length-drop (64 * k) ps))) in
-        ap₂ (λ (u v : Bool). u && v) c p ∙ rw (e, z) at inv
+        ap (λ (b : Bool). b && zeros (drop (64 * k) ps)) c ∙ rw (e, z) at inv
+
+    pub end_bad : x ≡ false → x ≡ whole
+    end_bad f = f ∙ rw f at ended
+
+    pub end_good : (y : Bool) → y ≡ zeros (take (length ps - 64 * k) (drop (64 * k) ps)) → x ≡ true → y ≡ whole
+    end_good y q t = q ∙ ap zeros (take_all (length ps - 64 * k) (drop (64 * k) ps) (omega (arith, length-drop (64 * k) ps))) ∙ rw t at ended
