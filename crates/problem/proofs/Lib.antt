@@ -1,4 +1,1 @@
 pub mod Records
-pub mod Next
-pub mod Brought
-pub mod Walks
