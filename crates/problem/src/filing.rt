@@ -1,11 +1,12 @@
 // A filing while it reads: what each kind of record does, and the records one after the other.
-ghost use Rattle.std.specs.Prelude.{◌≡◌, List, ℕ, ◌≤◌, ◌<◌, T, IfOk, unwrap_or, length};
+ghost use Rattle.std.specs.Prelude.{◌≡◌, List, ℕ, ◌<◌, T, unwrap_or, length};
 ghost use Rattle.refusal.specs.Outcome.{told};
 ghost use Rattle.configuration.specs.Configuration.{Line, weights_fit};
 ghost use Rattle.walk.specs.Walk.{read_all, verdict};
 ghost use Rattle.walk.specs.Held.{Does};
 ghost use Rattle.problem.specs.Problem.{on_variables, on_term, on_weight, on_clause, on_hard, on_record, filing, weight_fits};
-ghost use Rattle.problem.specs.Held.{state_in, IsUsable};
+ghost use Rattle.problem.specs.ProblemLaws.{IsSound};
+ghost use Rattle.problem.specs.Held.{state_in};
 
 use configuration::form::is_term;
 use hard::HardList;
@@ -25,15 +26,15 @@ pub struct Filing {
 }
 
 impl Model for Filing {
-    ghost use Rattle.std.specs.Prelude.{◌≤◌};
-    ghost use Rattle.polynomial.specs.Polynomial.{terms_of, IsOrdered};
+    ghost use Rattle.polynomial.specs.Polynomial.{terms_of};
+    ghost use Rattle.walk.specs.Held.{IsWork};
     ghost use Rattle.problem.specs.Held.{Entered};
 
     ghost Value = { Entered };
 
     ghost view = { λ f. record { variables = f.variables; work = terms_of f.work } };
 
-    ghost invariant = { λ f. (f.work.count ≤ 64) × IsOrdered (terms_of f.work) };
+    ghost invariant = { λ f. IsWork f.work };
 }
 
 // Whether a weight may be filed.
@@ -66,8 +67,7 @@ impl Filing {
     // V: the number of variables.
     fn on_variables(&mut self, bytes: &[u8], at: usize) -> Result<usize, Reason>
         requires { at < length bytes.now }
-        ensures does { (L : List Line) (H : List (List ℕ)) → Does (on_variables bytes.now) at (state_in self.old L H) result (state_in self.new L H) }
-        ensures size { IfOk result (λ n. n ≡ 2) }
+        ensures { (L : List Line) (H : List (List ℕ)) → Does (on_variables bytes.now) at (state_in self.old L H) result (state_in self.new L H) }
     {
         if self.variables.is_some() {
             return Err(Reason::Misplaced);
@@ -85,8 +85,7 @@ impl Filing {
     // M: a term is added to the work polynomial.
     fn on_term(&mut self, bytes: &[u8], at: usize) -> Result<usize, Reason>
         requires { at < length bytes.now }
-        ensures does { (L : List Line) (H : List (List ℕ)) → Does (on_term bytes.now) at (state_in self.old L H) result (state_in self.new L H) }
-        ensures size { IfOk result (λ n. n ≡ 5) }
+        ensures { (L : List Line) (H : List (List ℕ)) → Does (on_term bytes.now) at (state_in self.old L H) result (state_in self.new L H) }
     {
         let Some(variables) = self.variables else {
             return Err(Reason::Misplaced);
@@ -98,8 +97,7 @@ impl Filing {
     // W: the work polynomial is added at a weight, and cleared.
     fn on_weight(&mut self, bytes: &[u8], at: usize, lines: &mut Lines) -> Result<usize, Reason>
         requires { (at < length bytes.now) × T (weights_fit lines.old) }
-        ensures does { (H : List (List ℕ)) → Does (on_weight bytes.now) at (state_in self.old lines.old H) result (state_in self.new lines.new H) }
-        ensures size { IfOk result (λ n. n ≡ 9) }
+        ensures { (H : List (List ℕ)) → Does (on_weight bytes.now) at (state_in self.old lines.old H) result (state_in self.new lines.new H) }
     {
         if self.variables.is_none() {
             return Err(Reason::Misplaced);
@@ -118,8 +116,7 @@ impl Filing {
     // C: a clause is added at a weight; the work polynomial is untouched.
     fn on_clause(&self, bytes: &[u8], at: usize, lines: &mut Lines) -> Result<usize, Reason>
         requires { (at < length bytes.now) × T (weights_fit lines.old) }
-        ensures does { (H : List (List ℕ)) → Does (on_clause bytes.now) at (state_in self.now lines.old H) result (state_in self.now lines.new H) }
-        ensures size { IfOk result (λ n. n ≡ 17) }
+        ensures { (H : List (List ℕ)) → Does (on_clause bytes.now) at (state_in self.now lines.old H) result (state_in self.now lines.new H) }
     {
         let Some(variables) = self.variables else {
             return Err(Reason::Misplaced);
@@ -147,8 +144,7 @@ impl Filing {
 
     // H: the work polynomial joins the hard list, and is cleared.
     fn on_hard(&mut self, hard: &mut HardList) -> Result<usize, Reason>
-        ensures does { (at : ℕ) (L : List Line) → Does on_hard at (state_in self.old L hard.old) result (state_in self.new L hard.new) }
-        ensures size { IfOk result (λ n. n ≡ 1) }
+        ensures { (at : ℕ) (L : List Line) → Does on_hard at (state_in self.old L hard.old) result (state_in self.new L hard.new) }
     {
         if self.variables.is_none() {
             return Err(Reason::Misplaced);
@@ -162,10 +158,15 @@ impl Filing {
     }
 
     // One record: its kind, then its place and its body. Answers how many bytes it has.
-    fn on_record(&mut self, bytes: &[u8], at: usize, hard: &mut HardList, lines: &mut Lines) -> Result<usize, Reason>
+    fn on_record(
+        &mut self,
+        bytes: &[u8],
+        at: usize,
+        hard: &mut HardList,
+        lines: &mut Lines,
+    ) -> Result<usize, Reason>
         requires { (at < length bytes.now) × T (weights_fit lines.old) }
-        ensures does { Does (on_record bytes.now) at (state_in self.old lines.old hard.old) result (state_in self.new lines.new hard.new) }
-        ensures size { IfOk result (λ n. n ≤ 17) }
+        ensures { Does (on_record bytes.now) at (state_in self.old lines.old hard.old) result (state_in self.new lines.new hard.new) }
     {
         match bytes[at] {
             b'V' => self.on_variables(bytes, at),
@@ -185,8 +186,13 @@ impl Filing {
     }
 
     // Reads the records one after the other, up to the first that is refused.
-    pub fn read(&mut self, bytes: &[u8], hard: &mut HardList, lines: &mut Lines) -> Result<(), Refused>
-        requires { IsUsable (state_in self.old lines.old hard.old) }
+    pub fn read(
+        &mut self,
+        bytes: &[u8],
+        hard: &mut HardList,
+        lines: &mut Lines,
+    ) -> Result<(), Refused>
+        requires { IsSound (state_in self.old lines.old hard.old) }
         ensures { let r = read_all filing bytes.now (state_in self.old lines.old hard.old) in
             (state_in self.new lines.new hard.new ≡ r.reached.state) × (told (λ u. u) result ≡ verdict r.reached.records tt r.stop) }
     {
