@@ -32,7 +32,8 @@ fn above(entry: u64, key: u64) -> usize
 }
 
 // How many of the first entries have a key above the given one, by halving: the answer lies from `low` to `low + size`. It is
-// for this crate's search in `lines`, where keys fall.
+// for this crate's searches, where keys fall. The loop has no branch but its end, since nothing could guess the others: `low`
+// grows by a product.
 pub fn ahead(lines: usize, order: &[u64], key: u64) -> usize
     requires { (lines ≤ length order.now) × IsFalling (take lines order.now) × (key < 2 ^ 38) }
     ensures { result ≡ leading key (take lines order.now) }
