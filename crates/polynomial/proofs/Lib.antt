@@ -1,3 +1,4 @@
 pub mod OrderSteps
 pub mod Keys
 pub mod ToggleSteps
+pub mod Uses

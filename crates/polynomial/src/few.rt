@@ -14,6 +14,7 @@ use mask::keys::ordered_keys;
 
 // Writes the sum of the masks of a run, each joined to a mask that is apart from all of them, to the front of an area, where it
 // fits. Answers how many terms it has. The run ascends.
+#[tactic(auto, using(crate::proofs::Uses::uses_few_arranged))]
 fn arranged(fixed: u32, masks: &[u32], out: &mut [u32]) -> usize
     requires { IsSorted ascending masks.now × All (λ t. bit_and fixed t ≡ 0) masks.now × (length out.old ≡ 64) }
     ensures size { result ≡ length (normal (map (bit_or fixed) masks.now)) }
@@ -31,6 +32,7 @@ fn arranged(fixed: u32, masks: &[u32], out: &mut [u32]) -> usize
 
 // The product of two runs of terms, of which one mask has the variables that every product has, and another the rest, by a
 // table with a place for each subset of the latter.
+#[tactic(auto, using(crate::proofs::Uses::uses_few_product_by))]
 fn product_by<const PLACES: usize>(
     fixed: u32,
     mask: u32,
@@ -52,6 +54,7 @@ fn product_by<const PLACES: usize>(
 
 // The product of two runs of terms, of which one mask has the variables that every product has, and another the rest, at most 12.
 // Few variables get small areas, since an area is cleared each time.
+#[tactic(auto, using(crate::proofs::Uses::uses_few_product_few))]
 pub fn product_few(fixed: u32, mask: u32, f: &[u32], g: &[u32], out: &mut [u32]) -> usize
     requires { let p = f.now in let q = g.now in
         (length p ≤ 64) × (length q ≤ 64) × (fixed ≡ common_of p q) × (mask ≡ varying_of p q) × (degree_of mask ≤ 12) × (length out.old ≡ 64) }

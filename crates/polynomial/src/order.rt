@@ -15,6 +15,7 @@ pub fn least(a: usize, b: usize) -> usize
 
 // Where one run of terms stands beside another, which is less if it stands earlier: at the first place where they differ the one with
 // the earlier term is first, and of two that do not differ the shorter.
+#[tactic(auto, using(crate::proofs::Uses::uses_order_compare))]
 pub fn compare(f: &[u32], g: &[u32]) -> Ordering
     ensures { result ≡ order_of f.now g.now }
 {

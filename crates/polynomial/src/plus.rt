@@ -11,6 +11,7 @@ use mask::keys::{ordered_keys, ordered_products};
 
 // Writes the keys of the terms of q h, in order: by a table where the products of their terms differ in few variables, else by sorting.
 // Answers how many they are, at the front. The spare area is work space.
+#[tactic(auto, using(crate::proofs::Uses::uses_plus_product_keys))]
 fn product_keys(q: &[u32], h: &[u32], keys: &mut [u64], spare: &mut [u64]) -> usize
     requires { (length q.now ≤ 64) × (length h.now ≤ 64) × (4096 ≤ length keys.old) × (4096 ≤ length spare.old) }
     ensures size { result ≤ 4096 }
@@ -47,6 +48,7 @@ fn long_plus_product(f: &[u32], q: &[u32], h: &[u32], out: &mut [u32]) -> usize
 // q h is worked out by itself, since it fits. A long product has the shorter run first, so that its inner loops are long. It is called
 // at two places, which also keeps it a function of its own: the areas that it needs are then not laid out for a short result. It is for
 // `Polynomial::plus_product`.
+#[tactic(auto, using(crate::proofs::Uses::uses_plus_write_plus_product))]
 pub fn write_plus_product(f: &[u32], q: &[u32], h: &[u32], out: &mut [u32]) -> usize
     requires { (length f.now ≤ 64) × (length q.now ≤ 64) × (length h.now ≤ 64) × (length out.old ≡ 64) }
     ensures size { result ≡ length (sum_of f.now (product_of q.now h.now)) }

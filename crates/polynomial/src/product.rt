@@ -10,6 +10,7 @@ use mask::few::{common, most_variables, varying};
 use mask::keys::ordered_products;
 
 // The product of two runs of terms by adding the products of their terms one by one, in an area with room for all.
+#[tactic(auto, using(crate::proofs::Uses::uses_product_short_product), unfolding(run::specs::Run::normal_by, mask::specs::Mask::unions))]
 fn short_product(f: &[u32], g: &[u32], out: &mut [u32]) -> usize
     requires { length f.now * length g.now ≤ length out.old }
     ensures size { result ≡ length (product_of f.now g.now) }
@@ -23,6 +24,7 @@ fn short_product(f: &[u32], g: &[u32], out: &mut [u32]) -> usize
 }
 
 // The product of two runs of terms by sorting, in areas that hold all the products of their terms.
+#[tactic(auto, using(crate::proofs::Keys::product_masks))]
 fn product_in<const ROOM: usize>(f: &[u32], g: &[u32], out: &mut [u32]) -> usize
     requires { (length f.now * length g.now ≤ ROOM) × (ROOM ≤ 4096) × (length out.old ≡ 64) }
     ensures size { result ≡ length (product_of f.now g.now) }
@@ -36,6 +38,7 @@ fn product_in<const ROOM: usize>(f: &[u32], g: &[u32], out: &mut [u32]) -> usize
 
 // The product of two runs of terms by a table where their products differ in few variables, else by sorting, in a small area
 // where that does, since an area is cleared each time.
+#[tactic(auto, using(mask::specs::FewLaws::most_few, crate::proofs::Keys::most_products))]
 fn long_product(f: &[u32], g: &[u32], out: &mut [u32]) -> usize
     requires { (length f.now ≤ 64) × (length g.now ≤ 64) × (length out.old ≡ 64) }
     ensures size { result ≡ length (product_of f.now g.now) }
@@ -57,6 +60,7 @@ fn long_product(f: &[u32], g: &[u32], out: &mut [u32]) -> usize
 // A long product has the shorter run first, so that its inner loops are long. It is called at two places, which also keeps it a
 // function of its own: the areas that it needs are then not laid out for a short product. It is for `Polynomial::product` and
 // `Polynomial::plus_product`.
+#[tactic(auto, using(crate::proofs::Uses::uses_product_write_product))]
 pub fn write_product(f: &[u32], g: &[u32], out: &mut [u32]) -> usize
     requires { (length f.now ≤ 64) × (length g.now ≤ 64) × (length out.old ≡ 64) }
     ensures size { result ≡ length (product_of f.now g.now) }

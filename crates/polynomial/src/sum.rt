@@ -10,6 +10,7 @@ use mask::keys::ordered_keys;
 // Writes f + g to the front of an area of 64, where it fits. Answers how many terms it has. Few terms are added one by one; else each
 // run is put in order, which costs one pass where it is so already, and then one merge is made. It is for `Polynomial::sum` and
 // `Polynomial::plus_product`.
+#[tactic(auto, using(crate::proofs::Uses::uses_sum_write_sum))]
 pub fn write_sum(f: &[u32], g: &[u32], out: &mut [u32]) -> usize
     requires { (length f.now ≤ 64) × (length g.now ≤ 64) × (length out.old ≡ 64) }
     ensures size { result ≡ length (sum_of f.now g.now) }

@@ -7,25 +7,15 @@ use lib.Dec.{lit<}
 use lib.ListN.{length}
 use lib.Pow.{pow-lt, shl_exact}
 use Rattle.term.specs.TermLaws.{degree_le}
-use Rattle.polynomial.specs.ClauseLaws.{clause_both_ways, clause_length}
-use Rattle.polynomial.specs.Polynomial.{clause_of, measured_of}
+use Rattle.polynomial.specs.ClauseLaws.{clause_length}
+use Rattle.polynomial.specs.Polynomial.{clause_of}
 use Rattle.polynomial.proofs.Keys.{outcome_long}
 use Rattle.polynomial.proofs.Polynomial.clause.Goals as goal
 use Rattle.polynomial.proofs.Polynomial.clause.Goals.{After-degree-literals}
 
-pub returns-then-plain-negated-ne0 : goal.returns-then-plain-negated-ne0
-returns-then-plain-negated-ne0 c =
-    sym (ap measured_of (clause_both_ways c.args.plain c.args.negated c.ranges.plain.fits c.ranges.negated.fits c.if-plain-negated-ne0.true))
-
 -- a 32-bit mask has at most 32 variables
 few : (c : goal.After-degree-literals) → c.degree-literals.result ≤ 32
 few c = omega (arith, c.degree-literals.ensures, degree_le 32 c.args.plain c.ranges.plain.fits)
-
-pub overflow_cast-result : goal.overflow_cast-result
-overflow_cast-result c = omega (arith, few (goal.at.overflow_cast-result c).After-degree-literals)
-
-pub overflow_shl-result : goal.overflow_shl-result
-overflow_shl-result c = omega (arith, few (goal.at.overflow_shl-result c).After-degree-literals)
 
 pub returns-then-literals-gt6 : goal.returns-then-literals-gt6
 returns-then-literals-gt6 c =
@@ -36,6 +26,3 @@ returns-then-literals-gt6 c =
     let long : 2 ^ d ≡ length (clause_of p n) =
     ap (λ (k : ℕ). 2 ^ k) c.degree-literals.ensures ∙ sym (clause_length p n c.ranges.plain.fits c.ranges.negated.fits c.if-plain-negated-ne0.false) in
     outcome_long (clause_of p n) (1 * 2 ^ d % 2 ^ 64) (shifted ∙ long) (omega (arith, shifted, pow-lt {i = 6} {j = d} (omega arith)))
-
-pub returns : goal.returns
-returns c = c.short_clause.ensures

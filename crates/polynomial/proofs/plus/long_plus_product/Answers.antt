@@ -61,24 +61,14 @@ slice_bounds-merged-end c =
 pub slice_bounds-write_masks-end : goal.slice_bounds-write_masks-end
 slice_bounds-write_masks-end c = sym (length-take-le _ _ (slice_bounds-merged-end (goal.at.slice_bounds-write_masks-end c).After-merged-6-1))
 
-pub returns-clause-size : goal.returns-clause-size
-returns-clause-size c =
+pub returns : goal.returns
+returns c =
     let w = c.write_masks in
     let m = c.merge-count in
-    let a = c.args in
-    let f = a.f.now in
-    let p = product_of a.q.now a.h.now in
+    let v = c.args in
+    let f = v.f.now in
+    let p = product_of v.q.now v.h.now in
     let below_f = IsBelow-each f (λ i h. omega (arith, c.type_inv.f i)) in
-    (Written-terms (sum_of f p) (take m.result m.new.out) a.out.now w.new.out w.result
-    (sum_masks f p _ _ _ below_f (low (goal.at.returns-clause-size c).After-product_keys-n) c.ordered_keys-m.ensures.numbers (ordered (goal.at.returns-clause-size c).After-product_keys-n) m.ensures.numbers) (w.ensures.size, w.ensures.masks)).0
-
-pub returns-clause-sum : goal.returns-clause-sum
-returns-clause-sum c =
-    let w = c.write_masks in
-    let m = c.merge-count in
-    let a = c.args in
-    let f = a.f.now in
-    let p = product_of a.q.now a.h.now in
-    let below_f = IsBelow-each f (λ i h. omega (arith, c.type_inv.f i)) in
-    (Written-terms (sum_of f p) (take m.result m.new.out) a.out.now w.new.out w.result
-    (sum_masks f p _ _ _ below_f (low (goal.at.returns-clause-sum c).After-product_keys-n) c.ordered_keys-m.ensures.numbers (ordered (goal.at.returns-clause-sum c).After-product_keys-n) m.ensures.numbers) (w.ensures.size, w.ensures.masks)).1
+    let a = Written-terms (sum_of f p) (take m.result m.new.out) v.out.now w.new.out w.result
+    (sum_masks f p _ _ _ below_f (low (goal.at.returns c).After-product_keys-n) c.ordered_keys-m.ensures.numbers (ordered (goal.at.returns c).After-product_keys-n) m.ensures.numbers) (w.ensures.size, w.ensures.masks) in
+    record { size = a.0; sum = a.1 }
