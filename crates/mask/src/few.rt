@@ -34,7 +34,7 @@ fn shared_with(mask: u32, terms: &[u32]) -> u32
 pub fn common(f: &[u32], g: &[u32]) -> u32
     ensures { result ≡ common_of f.now g.now }
 {
-    shared_with(4294967295, f) | shared_with(4294967295, g)
+    shared_with(u32::MAX, f) | shared_with(u32::MAX, g)
 }
 
 // The other variables of two runs of terms. It is for products in the crate polynomial, which asks `common` first.
