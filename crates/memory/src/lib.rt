@@ -9,7 +9,7 @@ pub mod form;
 pub mod open;
 
 // The head of what is lent: how many variables the problem has, how many lines are held, and how many hard polynomials.
-#[derive(Clone, Copy)]
+#[derive(Clone, Copy, PartialEq, Eq)]
 pub struct Head {
     pub variables: u32,
     pub lines: u32,
@@ -17,7 +17,7 @@ pub struct Head {
 }
 
 // The record of a line in the line table: its weight, and how many terms it has.
-#[derive(Clone, Copy)]
+#[derive(Clone, Copy, PartialEq, Eq)]
 pub struct Entry {
     pub weight: i64,
     pub count: u32,
