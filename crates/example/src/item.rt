@@ -153,84 +153,92 @@ fn split_text(data: &[u8]) -> Option<(&[u8], &[u8])>
     Some((text, &data[end..]))
 }
 
+// The change that a kind and its numbers are, if they are one.
+fn change_of(kind: Kind, numbers: &[u8]) -> Option<Change> {
+    let first = short_at(numbers, 0);
+    let second = short_at(numbers, 4);
+    let place = first as usize;
+    match kind {
+        Kind::Areas => Some(Change::Areas {
+            head: Head {
+                variables: first,
+                lines: second,
+                hard: short_at(numbers, 8),
+            },
+            number: short_at(numbers, 12),
+        }),
+        Kind::Term => Some(Change::Term {
+            place,
+            term: second,
+        }),
+        Kind::Entry => Some(Change::Entry {
+            place,
+            entry: Entry {
+                weight: signed_at(numbers, 12),
+                count: second,
+            },
+        }),
+        Kind::HardCount => Some(Change::HardCount {
+            place,
+            count: second,
+        }),
+        Kind::HardTerm => Some(Change::HardTerm {
+            place,
+            term: second,
+        }),
+        Kind::HardLent => Some(Change::HardLent {
+            counts: place,
+            places: second as usize,
+        }),
+        _ => None,
+    }
+}
+
+// The operation that a kind with its numbers and operands is, if it is one.
+fn operation_of<'a>(kind: Kind, numbers: &[u8], f: &'a [u8], g: &'a [u8]) -> Option<Operation<'a>> {
+    let amount = signed_at(numbers, 12);
+    let (rule, mode) = match kind {
+        Kind::File => return Some(Operation::File(f)),
+        Kind::Check => return Some(Operation::Check(f)),
+        Kind::Line => {
+            return Some(Operation::Line {
+                number: usize::try_from(amount).unwrap_or(usize::MAX),
+                size: f.len(),
+            });
+        }
+        Kind::Sum(mode) => (Rule::Sum, mode),
+        Kind::Prod(mode) => (Rule::Prod, mode),
+        Kind::Hard(mode) => (Rule::Hard(short_at(numbers, 8)), mode),
+        _ => return None,
+    };
+    let asked = Move { rule, mode, amount };
+    Some(Operation::Step { asked, f, g })
+}
+
 // The item at the front of the data, and what is behind it; nothing where it is of no kind or cut.
 pub fn split_item(data: &[u8]) -> Option<(Item<'_>, &[u8])>
     ensures { IfSome result (λ x. length x.1.now < length «data».now) }
 {
-    let (&byte, body) = data.split_first()?;
+    let (&byte, numbers) = data.split_first()?;
     let kind = Kind::try_from(byte).ok()?;
     if let Kind::End = kind {
-        return Some((Item::End, body));
+        return Some((Item::End, numbers));
     }
-    let texts = body.get(20..)?;
+    let texts = numbers.get(20..)?;
     let (name, rest) = split_text(texts)?;
     let (due, rest) = split_text(rest)?;
     let (f, rest) = split_text(rest)?;
     let (g, rest) = split_text(rest)?;
-    let first = short_at(body, 0);
-    let second = short_at(body, 4);
-    let third = short_at(body, 8);
-    let fourth = signed_at(body, 12);
-    let place = first as usize;
-    let example = |operation| {
-        Item::Example(Example {
-            name,
-            due,
-            terms: place,
-            entries: second as usize,
-            operation,
-        })
+    if let Some(change) = change_of(kind, numbers) {
+        return Some((Item::Change(change), rest));
+    }
+    let operation = operation_of(kind, numbers, f, g)?;
+    let example = Example {
+        name,
+        due,
+        terms: short_at(numbers, 0) as usize,
+        entries: short_at(numbers, 4) as usize,
+        operation,
     };
-    let step = |rule, mode| {
-        let asked = Move {
-            rule,
-            mode,
-            amount: fourth,
-        };
-        example(Operation::Step { asked, f, g })
-    };
-    let item = match kind {
-        Kind::Areas => Item::Change(Change::Areas {
-            head: Head {
-                variables: first,
-                lines: second,
-                hard: third,
-            },
-            number: short_at(body, 12),
-        }),
-        Kind::Term => Item::Change(Change::Term {
-            place,
-            term: second,
-        }),
-        Kind::Entry => Item::Change(Change::Entry {
-            place,
-            entry: Entry {
-                weight: fourth,
-                count: second,
-            },
-        }),
-        Kind::HardCount => Item::Change(Change::HardCount {
-            place,
-            count: second,
-        }),
-        Kind::HardTerm => Item::Change(Change::HardTerm {
-            place,
-            term: second,
-        }),
-        Kind::HardLent => Item::Change(Change::HardLent {
-            counts: place,
-            places: second as usize,
-        }),
-        Kind::File => example(Operation::File(f)),
-        Kind::Check => example(Operation::Check(f)),
-        Kind::Line => example(Operation::Line {
-            number: usize::try_from(fourth).unwrap_or(usize::MAX),
-            size: f.len(),
-        }),
-        Kind::Sum(mode) => step(Rule::Sum, mode),
-        Kind::Prod(mode) => step(Rule::Prod, mode),
-        Kind::Hard(mode) => step(Rule::Hard(third), mode),
-        Kind::End => Item::End,
-    };
-    Some((item, rest))
+    Some((Item::Example(example), rest))
 }

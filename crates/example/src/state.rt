@@ -120,13 +120,11 @@ impl State {
     // Files the problem that the bytes are. It alone may write to the hard list.
     pub fn file(&mut self, bytes: &[u8]) -> Said {
         let lent = self.lent;
-        let told = checker::file_problem(
-            bytes,
-            &mut self.terms[..lent.terms],
-            &mut self.entries[..lent.entries],
-            &mut self.counts[..lent.counts],
-            &mut self.places[..lent.places],
-        );
+        let (terms, _) = self.terms.split_at_mut(lent.terms);
+        let (entries, _) = self.entries.split_at_mut(lent.entries);
+        let (counts, _) = self.counts.split_at_mut(lent.counts);
+        let (places, _) = self.places.split_at_mut(lent.places);
+        let told = checker::file_problem(bytes, terms, entries, counts, places);
         self.head = told.head;
         filed(told.answer)
     }
@@ -134,14 +132,11 @@ impl State {
     // Checks the derivation that the bytes are.
     pub fn check(&mut self, bytes: &[u8]) -> Said {
         let lent = self.lent;
-        let told = checker::check_derivation(
-            bytes,
-            self.head,
-            &mut self.terms[..lent.terms],
-            &mut self.entries[..lent.entries],
-            &self.counts[..lent.counts],
-            &self.places[..lent.places],
-        );
+        let (terms, _) = self.terms.split_at_mut(lent.terms);
+        let (entries, _) = self.entries.split_at_mut(lent.entries);
+        let counts = &self.counts[..lent.counts];
+        let places = &self.places[..lent.places];
+        let told = checker::check_derivation(bytes, self.head, terms, entries, counts, places);
         self.head = told.head;
         checked(told.answer)
     }
@@ -149,17 +144,13 @@ impl State {
     // Takes one step.
     pub fn step(&mut self, asked: Move, f: &[u32], g: &[u32]) -> Said {
         let lent = self.lent;
+        let Move { rule, mode, amount } = asked;
+        let (terms, _) = self.terms.split_at_mut(lent.terms);
+        let (entries, _) = self.entries.split_at_mut(lent.entries);
+        let counts = &self.counts[..lent.counts];
+        let places = &self.places[..lent.places];
         let told = checker::take_step(
-            self.head,
-            &mut self.terms[..lent.terms],
-            &mut self.entries[..lent.entries],
-            &self.counts[..lent.counts],
-            &self.places[..lent.places],
-            asked.rule,
-            asked.mode,
-            f,
-            g,
-            asked.amount,
+            self.head, terms, entries, counts, places, rule, mode, f, g, amount,
         );
         self.head = told.head;
         taken(told.answer)
