@@ -37,9 +37,10 @@ fn put_listing(text: &mut Vec<u8>, state: &State) -> io::Result<()> {
     Ok(())
 }
 
-// Does what an operation does, and writes what it said and, if it changed anything, the listing.
-fn operate(text: &mut Vec<u8>, example: Example<'_>, state: &mut State) -> io::Result<()> {
-    let alloc = *text.allocator();
+// Makes the call that an example is, and answers the text of its outcome.
+pub fn outcome(alloc: Global, example: Example<'_>, state: &mut State) -> io::Result<Vec<u8>> {
+    let mut text = Vec::new(alloc);
+    state.lend(example.terms, example.entries);
     let before = *state;
     let said = match example.operation {
         Operation::File(bytes) => state.file(bytes),
@@ -47,26 +48,19 @@ fn operate(text: &mut Vec<u8>, example: Example<'_>, state: &mut State) -> io::R
         Operation::Step { asked, f, g } => {
             state.step(asked, &terms_of(alloc, f)?, &terms_of(alloc, g)?)
         }
-        // A line is written at the front of 32 dots, of which so many are lent, and stands below the answer.
+        // A line is written at the front of 32 dots, of which so many are lent, and all of them stand below the answer.
         Operation::Line { number, size } => {
             let mut area = [b'.'; 32];
             let said = state.write_line(&mut area[..size.min(32)], number);
             writeln!(text, "{said}")?;
-            return text.write_all(&area);
+            text.write_all(&area)?;
+            return Ok(text);
         }
     };
     write!(text, "{said}")?;
-    if before == *state {
-        return Ok(());
+    if before != *state {
+        writeln!(text)?;
+        put_listing(&mut text, &state.as_due())?;
     }
-    writeln!(text)?;
-    put_listing(text, &state.as_due())
-}
-
-// The outcome of an example.
-pub fn outcome(alloc: Global, example: Example<'_>, state: &mut State) -> io::Result<Vec<u8>> {
-    let mut text = Vec::new(alloc);
-    state.lend(example.terms, example.entries);
-    operate(&mut text, example, state)?;
     Ok(text)
 }
