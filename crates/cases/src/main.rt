@@ -12,12 +12,7 @@ use std::io;
 const CASES: usize = 383;
 
 // One case.
-fn run<R: Files + Print>(
-    rt: &R,
-    alloc: Global,
-    number: usize,
-    out: &mut [u8],
-) -> io::Result<()> {
+fn run<R: Files + Print>(rt: &R, alloc: Global, number: usize, out: &mut [u8]) -> io::Result<()> {
     let mut bytes = [0u8; 8193];
     let mut steps = [0u8; 8193];
     let problem = format!(in alloc; "p{number:03}")?;
