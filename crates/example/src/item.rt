@@ -12,7 +12,7 @@ use std::num::wrapping_add_usize;
 use step::Move;
 
 // A place that no data has.
-const BEYOND: usize = 18446744073709551615;
+const BEYOND: usize = usize::MAX;
 
 // What the byte of an item says of its numbers and operands.
 #[derive(Clone, Copy)]

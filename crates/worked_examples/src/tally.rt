@@ -1,6 +1,5 @@
 // What is printed: a line for each example, and the count of all.
 use std::io;
-use std::num::wrapping_add_u64;
 
 // How many examples were worked, and how many of them came out otherwise than they should.
 #[derive(Clone, Copy)]
@@ -23,12 +22,12 @@ impl Tally {
         outcome: &[u8],
         due: &[u8],
     ) -> io::Result<()> {
-        self.worked = wrapping_add_u64(self.worked, 1);
+        self.worked = self.worked.wrapping_add(1);
         to.write_all(name)?;
         if outcome == due {
             return println!(to; "as it should be");
         }
-        self.differ = wrapping_add_u64(self.differ, 1);
+        self.differ = self.differ.wrapping_add(1);
         to.write_all(outcome)?;
         print!(to; ", should be ")?;
         to.write_all(due)?;
