@@ -13,23 +13,16 @@ use Rattle.std.proofs.lemmas.Result.{err_from_is_err_and}
 use Rattle.configuration.specs.Configuration.{line, some, add_all}
 use Rattle.table.proofs.Searches.{some_of, first_key_lem}
 use Rattle.replacement.specs.Replacing.{weighed_in}
-use Rattle.replacement.proofs.Weighings.{held_is, sum_small, sum_fits, sum_is}
-use Rattle.replacement.proofs.Judgements.{Judged, judged_refused, judged_done, judged_few, nothing_added}
+use Rattle.replacement.proofs.Weighings.{held_is, sum_small, sum_is}
+use Rattle.replacement.proofs.Judgements.{Judged, judged_refused, judged_done, judged_few}
 use Rattle.replacement.proofs.add.Goals as goal
 use Rattle.replacement.proofs.add.Goals.{After-look_up-known, After-judge, Else-f, Start}
-
-pub returns-then-f : goal.returns-then-f
-returns-then-f c = nothing_added c.args.f.now c.args.amount c.args.table.now c.if-f.true c.requires.0 (omega (arith, c.len-lines.ensures.lines, c.len-lines.ensures.few))
 
 not_zero : (c : goal.Else-f) → T (some c.args.f.now)
 not_zero c = some_of c.args.f.now c.if-f.false
 
 small : (s : goal.Start) → mag s.args.amount < 2 ^ 45
 small s = omega (arith, s.requires.2)
-
-pub overflow_add-weighed : goal.overflow_add-weighed
-overflow_add-weighed c =
-    sum_fits c.args.table.now c.args.f.now c.args.amount c.len-lines.ensures.ordered c.requires.0 (small (goal.at.overflow_add-weighed c).Start) _ _ c.look_up-known.ensures.weight refl
 
 judged : (c : goal.After-judge) → (let L = c.args.table.now in let h = to_z w64 (of_z w64 c.look_up-known.result.weight) in
     let w = to_z w64 (of_z w64 c.args.amount) in
