@@ -90,6 +90,7 @@ fn plan_hard(
 }
 
 // The plan of a rule. It is for `step` of this crate.
+#[tactic(auto, using(crate::proofs::Plans::named_plan, crate::proofs::Plans::place_of))]
 pub fn plan_of(
     rule: Rule,
     f: &[u32],
