@@ -17,7 +17,6 @@ ghost use Rattle.replacement.specs.Passes.{IsSmall};
 use changes::{Weighed, weigh};
 use limits::judge;
 use passes::fold_all;
-use polynomial::Polynomial;
 use refusal::Reason;
 use table::{Changes, Lines};
 use term::key;
@@ -45,7 +44,7 @@ pub fn add(table: &mut Lines, f: &[u32], amount: i64) -> Result<(), Reason>
     ensures { record { reached = table.new; stop = stop_in result } ≡ after table.old (within (addTo f.now amount table.old)) }
 {
     let lines = table.len();
-    if f.len() == Polynomial::ZERO.count {
+    if f.is_empty() {
         return Ok(());
     }
     let first = key(f[0]);

@@ -7,8 +7,7 @@ ghost use Rattle.replacement.specs.Passes.{Room};
 ghost use Rattle.replacement.specs.Replacing.{new_weights, weighed_in, chosen, IsPlaced, moved_down};
 
 use crate::changes::Weighed;
-use table::lines::Known;
-use table::{Changes, Lines};
+use table::{Changes, Known, Lines};
 
 // Moves the places of the lines that stay, once those that vanish are gone. Where a line vanishes any place will do.
 #[tactic(auto, using(crate::proofs::Weighings::moved_more, crate::proofs::Weighings::moved_all))]

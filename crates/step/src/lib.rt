@@ -75,9 +75,7 @@ fn is_named(hard: &HardList, rule: Rule) -> bool
 fn object(table: &Lines, hard: &HardList, f: &[u32], g: &[u32], asked: Move) -> Result<(), Reason>
     ensures { Finds (mode_tests hard.now asked.rule asked.mode f.now g.now asked.amount table.now) result }
 {
-    let rule = asked.rule;
-    let mode = asked.mode;
-    let amount = asked.amount;
+    let Move { rule, mode, amount } = asked;
     if let Mode::Plain = mode {
         if !table.none_negative() {
             return Err(Reason::NegativeLine);
