@@ -22,7 +22,7 @@ use Rattle.derivation.specs.Derivation.{State, going, claim_fits, on_term, on_ch
 use Rattle.derivation.specs.Held.{progress_in, left_in, Held, passed, closing, Leaves}
 use Rattle.derivation.specs.declared.Progress.{Progress}
 use Rattle.derivation.specs.declared.Recorded.{Recorded}
-use Rattle.record.specs.declared.Amount.TheVariants as A
+use Rattle.std.specs.declared.option.Option.TheVariants.{Some, None}
 use Rattle.walk.specs.Walk as W
 
 -- a refused record leaves all as it was
@@ -130,10 +130,10 @@ module _ (s : List ℕ) (p : Progress) (fs us : List ℕ) (t : Table) where
   claim_misplaced e = rw e
 
   module _ (e : is_idle ≡ true) where
-    pub claim_cut : amount_in s (p.at + 1) ≡ A.Cut → on_claim s now ≡ refused (numbered 3)
+    pub claim_cut : amount_in s (p.at + 1) ≡ None → on_claim s now ≡ refused (numbered 3)
     claim_cut k = rw (e, amount_cut s (p.at + 1) k)
 
-    module _ (w : ℤ) (a : amount_in s (p.at + 1) ≡ A.Whole w) where
+    module _ (w : ℤ) (a : amount_in s (p.at + 1) ≡ Some w) where
       pub claim_range : claim_fits w ≡ false → on_claim s now ≡ refused (numbered 8)
       claim_range k = rw (e, (amount_whole s (p.at + 1) w a).0, (amount_whole s (p.at + 1) w a).1, k)
 

@@ -31,8 +31,7 @@ use Rattle.derivation.specs.declared.Recorded.{Recorded}
 use Rattle.derivation.proofs.Degrees.{first_degree_lem}
 use Rattle.derivation.proofs.Entries.{refused_as, passes}
 use Rattle.calculus.specs.Calculus as C
-use Rattle.record.specs.declared.Amount.TheVariants as A
-use Rattle.record.specs.declared.Byte.TheVariants as B
+use Rattle.std.specs.declared.option.Option.TheVariants.{Some, None}
 use Rattle.walk.specs.Walk as W
 
 -- ---- the step that is asked for
@@ -111,22 +110,22 @@ module _ (H : List (List ℕ)) (s : List ℕ) (p : Progress) (fs us : List ℕ) 
   hard_misplaced e = rw e
 
   module _ (e : can_step ≡ true) where
-    pub step_cut : (r : Rule) → amount_in s (p.at + 1) ≡ A.Cut → on_step H r s now ≡ refused (numbered 3)
+    pub step_cut : (r : Rule) → amount_in s (p.at + 1) ≡ None → on_step H r s now ≡ refused (numbered 3)
     step_cut r a = rw (e, amount_cut s (p.at + 1) a)
 
-    pub step_whole : (r : Rule) (w : ℤ) → amount_in s (p.at + 1) ≡ A.Whole w → on_step H r s now ≡ step_asked H (record { rule = r; mode = p.mode; amount = w }) 9 now
+    pub step_whole : (r : Rule) (w : ℤ) → amount_in s (p.at + 1) ≡ Some w → on_step H r s now ≡ step_asked H (record { rule = r; mode = p.mode; amount = w }) 9 now
     step_whole r w a = rw (e, (amount_whole s (p.at + 1) w a).0, (amount_whole s (p.at + 1) w a).1)
 
     -- E's body is a byte and an amount
     body : whole 9 s (p.at + 1) ≡ whole 8 s (p.at + 2)
     body = let same : p.at + 1 + 9 ≡ p.at + 2 + 8 = omega arith in ap (λ (k : ℕ). leb k (length s)) same
 
-    pub hard_numberless : byte_in s (p.at + 1) ≡ B.Cut → on_hard H s now ≡ refused (numbered 3)
+    pub hard_numberless : byte_in s (p.at + 1) ≡ None → on_hard H s now ≡ refused (numbered 3)
     hard_numberless a = rw (e, fewer_bytes 1 9 s (p.at + 1) (omega arith) (byte_cut s (p.at + 1) a))
 
-    pub hard_cut : amount_in s (p.at + 2) ≡ A.Cut → on_hard H s now ≡ refused (numbered 3)
+    pub hard_cut : amount_in s (p.at + 2) ≡ None → on_hard H s now ≡ refused (numbered 3)
     hard_cut a = rw (e, body ∙ amount_cut s (p.at + 2) a)
 
-    pub hard_whole : (i : ℕ) (w : ℤ) → byte_in s (p.at + 1) ≡ B.Whole i → amount_in s (p.at + 2) ≡ A.Whole w
+    pub hard_whole : (i : ℕ) (w : ℤ) → byte_in s (p.at + 1) ≡ Some i → amount_in s (p.at + 2) ≡ Some w
         → on_hard H s now ≡ step_asked H (record { rule = Hard i; mode = p.mode; amount = w }) 10 now
     hard_whole i w a b = rw (e, body ∙ (amount_whole s (p.at + 2) w b).0, (byte_whole s (p.at + 1) i a).1, (amount_whole s (p.at + 2) w b).1)

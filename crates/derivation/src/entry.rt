@@ -12,7 +12,7 @@ use crate::{Progress, Recorded};
 use calculus::{Mode, Rule};
 use polynomial::area::write;
 use polynomial::{Polynomial, front};
-use record::{Amount, Byte, read_amount, read_byte};
+use record::{read_amount, read_byte};
 use refusal::{Objection, Reason};
 use step::{Move, step};
 use table::lines::{none_negative, weight_of};
@@ -219,7 +219,7 @@ pub fn on_step(
     if !can_step(p) {
         return refused(p, Reason::Misplaced);
     }
-    let Amount::Whole(amount) = read_amount(bytes, p.at + 1) else {
+    let Some(amount) = read_amount(bytes, p.at + 1) else {
         return refused(p, Reason::CutShort);
     };
     let mode = p.mode;
@@ -250,10 +250,10 @@ pub fn on_hard(
     if !can_step(p) {
         return refused(p, Reason::Misplaced);
     }
-    let Byte::Whole(number) = read_byte(bytes, p.at + 1) else {
+    let Some(number) = read_byte(bytes, p.at + 1) else {
         return refused(p, Reason::CutShort);
     };
-    let Amount::Whole(amount) = read_amount(bytes, p.at + 2) else {
+    let Some(amount) = read_amount(bytes, p.at + 2) else {
         return refused(p, Reason::CutShort);
     };
     let mode = p.mode;
@@ -331,7 +331,7 @@ pub fn on_claim(
     if !is_idle(p) {
         return refused(p, Reason::Misplaced);
     }
-    let Amount::Whole(claim) = read_amount(bytes, p.at + 1) else {
+    let Some(claim) = read_amount(bytes, p.at + 1) else {
         return refused(p, Reason::CutShort);
     };
     if !claim_fits(claim) {

@@ -1,7 +1,7 @@
 // The items of the data. Each is a byte for its kind, three numbers of four bytes and one of eight, and four texts, of which
 // each is its length in four bytes and then so many bytes: a name, the text that is due, and two operands. An operand is bytes,
 // or terms of four bytes each.
-use record::{Amount, Mask, read_amount, read_mask};
+use record::{read_amount, read_mask};
 use std::num::wrapping_add_usize;
 
 // The kinds. What is lent anew: how many variables, lines and hard polynomials, and what every number of the areas is.
@@ -69,28 +69,19 @@ pub struct Item {
 
 // The number of four bytes, or 0 where they are not there.
 pub fn short_at(data: &[u8], at: usize) -> u32 {
-    let body = read_mask(data, at);
-    match body {
-        Mask::Whole(number) => number,
-        Mask::Cut => 0,
-    }
+    read_mask(data, at).unwrap_or(0)
 }
 
 // The signed number of eight bytes, or 0 where they are not there.
 pub fn signed_at(data: &[u8], at: usize) -> i64 {
-    let body = read_amount(data, at);
-    match body {
-        Amount::Whole(number) => number,
-        Amount::Cut => 0,
-    }
+    read_amount(data, at).unwrap_or(0)
 }
 
 // The place behind a text.
 fn behind(data: &[u8], at: usize) -> usize {
-    let body = read_mask(data, at);
-    match body {
-        Mask::Whole(size) => wrapping_add_usize(at, 4 + size as usize),
-        Mask::Cut => BEYOND,
+    match read_mask(data, at) {
+        Some(size) => wrapping_add_usize(at, 4 + size as usize),
+        None => BEYOND,
     }
 }
 

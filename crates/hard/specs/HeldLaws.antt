@@ -66,6 +66,16 @@ map_more : (H : List (List ℕ)) (f : List ℕ) → map length (H ++ (f ∷ []))
 map_more [] f = refl
 map_more (h ∷ H) f = ap (λ (s : List ℕ). length h ∷ s) (map_more H f)
 
+-- zeros behind a list, from the m-th on
+zeros_behind : (L : List ℕ) (m a c n : ℕ) → n ≡ m + (a + c) → drop (length L + m) (L ++ replicate n 0) ≡ replicate a 0 ++ replicate c 0
+zeros_behind L m a c n e =
+    let rest = replicate {A = ℕ} a 0 ++ replicate c 0 in
+    let parts : replicate {A = ℕ} n 0 ≡ replicate m 0 ++ rest =
+    ap (λ (j : ℕ). replicate j 0) e
+    ∙ sym (replicate-append-replicate m (a + c) 0)
+    ∙ ap (λ (t : List ℕ). replicate m 0 ++ t) (sym (replicate-append-replicate a c 0)) in
+    drop-append-add L (replicate n 0) m ∙ ap (drop m) parts ∙ drop_at (replicate m 0) rest m (length-replicate {A = ℕ} m 0)
+
 module _ (H : List (List ℕ)) (s : AllShort H) (b : length H < 16) (f : List ℕ) (l : length f ≤ 64) where
   pub list_one_more : length (H ++ (f ∷ [])) ≡ suc (length H)
   list_one_more = length-append H (f ∷ []) ∙ add-one (length H)
@@ -89,18 +99,8 @@ module _ (H : List (List ℕ)) (s : AllShort H) (b : length H < 16) (f : List �
   behind_more : drop (64 * length H + length f) (hard_image H).places ≡ unused
   unfolding unused
   behind_more =
-      let k = length H in
-      let L = laid_hard H in
-      let long : length L ≡ 64 * k = length_rows H s in
-      let z = replicate {A = ℕ} (1024 - 64 * k) 0 in
-      let a = 64 - length f in
-      let c = 1024 - 64 * length (H ++ (f ∷ [])) in
-      let e : 1024 - 64 * k ≡ length f + (a + c) = omega (arith, list_one_more) in
-      ap (λ (j : ℕ). drop (j + length f) (L ++ z)) (sym long) ∙ drop-append-add L z (length f)
-      ∙ ap (λ (j : ℕ). drop (length f) (replicate j 0)) e
-      ∙ ap (drop (length f)) (sym (replicate-append-replicate (length f) (a + c) 0))
-      ∙ drop_at (replicate (length f) 0) (replicate (a + c) 0) (length f) (length-replicate {A = ℕ} (length f) 0)
-      ∙ sym (replicate-append-replicate a c 0)
+      ap (λ (j : ℕ). drop (j + length f) (hard_image H).places) (sym (length_rows H s))
+      ∙ zeros_behind (laid_hard H) (length f) (64 - length f) (1024 - 64 * length (H ++ (f ∷ []))) (1024 - 64 * length H) (omega (arith, list_one_more))
 
   pub places_more : take (64 * length H) (hard_image H).places ++ (f ++ drop (64 * length H + length f) (hard_image H).places) ≡ (hard_image (H ++ (f ∷ []))).places
   unfolding unused

@@ -18,6 +18,7 @@ fn row_formed(variables: u32, count: u32, row: &[u32]) -> bool
 }
 
 // Whether the first polynomials are well formed, and all behind them is zero.
+#[tactic(auto, using(crate::proofs::Forms::row_bad, crate::proofs::Forms::row_good, crate::proofs::Forms::rows_end))]
 fn rows_formed(variables: u32, number: usize, counts: &[u32], places: &[u32]) -> bool
     requires { (number ≤ 16) × (length counts.now ≡ 16) × (length places.now ≡ 1024) }
     ensures { result ≡ rows_formed variables number counts.now places.now }

@@ -14,7 +14,7 @@ use polynomial::area::write;
 use polynomial::front;
 use std::marker::Model;
 
-// At most 16 hard polynomials, each of at most 64 terms, in the order in which they came.
+/// At most 16 hard polynomials, each of at most 64 terms, in the order in which they came.
 #[derive(Drop)]
 pub struct HardList {
     number: usize,
@@ -35,6 +35,7 @@ impl Model for HardList {
 }
 
 impl HardList {
+    #[tactic(auto, unfolding(crate::specs::Hard::laid_hard, crate::specs::Hard::read_hard))]
     pub fn new() -> HardList
         ensures { result ≡ [] }
     {
@@ -45,22 +46,25 @@ impl HardList {
         }
     }
 
-    // The list of what is lent, if that is well formed.
+    /// The list of what is lent, if that is well formed.
     pub fn open(variables: u32, number: u32, counts: &[u32], places: &[u32]) -> Option<HardList>
         ensures formed { is_some result ≡ hard_formed variables (record { number = number; counts = counts.now; places = places.now }) }
         ensures list { IfSome result (λ H. H ≡ hard_of (record { number = number; counts = counts.now; places = places.now })) }
         ensures polynomials { IfSome result (λ H. T (is_hard_list variables H)) }
     {
+        let counts = <&[u32; 16]>::try_from(counts).ok()?;
+        let places = <&[u32; 1024]>::try_from(places).ok()?;
         if !hard_formed(variables, number, counts, places) {
             return None;
         }
-        let mut hard = HardList::new();
-        hard.number = number as usize;
-        hard.counts.copy_from_slice(counts);
-        hard.places.copy_from_slice(places);
-        Some(hard)
+        Some(HardList {
+            number: number as usize,
+            counts: *counts,
+            places: *places,
+        })
     }
 
+    #[tactic(auto, using(crate::specs::HardLaws::all_read))]
     pub fn len(&self) -> usize
         ensures number { result ≡ length self.now }
         ensures few { result ≤ 16 }
@@ -69,29 +73,29 @@ impl HardList {
         self.number
     }
 
-    // The polynomial at a place, from 0.
+    /// The polynomial at a place, from 0.
     pub fn polynomial(&self, i: usize) -> &[u32]
         requires { i < length self.now }
         ensures terms { result.now ≡ get_or self.now i [] }
         ensures short { length result.now ≤ 64 }
     {
-        let _number = self.number;
+        let HardList { counts, places, .. } = self;
         let start = 64 * i;
-        let end = start + self.counts[i] as usize;
-        &self.places[start..end]
+        let end = start + counts[i] as usize;
+        &places[start..end]
     }
 
     pub fn push(&mut self, f: &[u32])
         requires { (length self.old < 16) × (length f.now ≤ 64) }
         ensures { self.new ≡ self.old ++ f.now ∷ [] }
     {
-        let number = self.number;
-        write(&mut self.places, 64 * number, f);
-        self.counts[number] = f.len() as u32;
-        self.number = number + 1;
+        let start = 64 * self.number;
+        self.places[start..start + f.len()].copy_from_slice(f);
+        self.counts[self.number] = f.len() as u32;
+        self.number += 1;
     }
 
-    // Writes the counts and the places back to what is lent.
+    /// Writes the list back to what is lent, but for the number, which is `len`.
     pub fn close(&self, counts: &mut [u32], places: &mut [u32])
         requires { (length counts.old ≡ 16) × (length places.old ≡ 1024) }
         ensures counts { counts.new ≡ (hard_image self.now).counts }

@@ -23,9 +23,8 @@ use Rattle.problem.specs.Item.{weighted, hard, Holding}
 use Rattle.problem.specs.ItemLaws.{joined}
 use Rattle.problem.specs.Problem.{State, having, weight_fits, with_item, on_variables, on_term, on_weight, on_clause, on_hard, on_record, filed}
 use Rattle.record.proofs.Bodies.{byte_cut, byte_whole, amount_cut, amount_whole, clause_cut, clause_whole}
-use Rattle.record.specs.declared.Byte.TheVariants as B
-use Rattle.record.specs.declared.Amount.TheVariants as A
-use Rattle.record.specs.declared.Clause.TheVariants as C
+use Rattle.record.specs.declared.Clause.{Clause}
+use Rattle.std.specs.declared.option.Option.TheVariants.{Some, None}
 
 -- ---- out of place
 module _ (s : List ℕ) (q : Progress State) where
@@ -62,10 +61,10 @@ module _ (q : Progress State) where
 
 -- ---- V
 module _ (s : List ℕ) (q : Progress State) (e : q.state.started ≡ false) where
-  pub variables_cut : byte_in s (q.at + 1) ≡ B.Cut → refused (numbered 3) ≡ on_variables s q
+  pub variables_cut : byte_in s (q.at + 1) ≡ None → refused (numbered 3) ≡ on_variables s q
   variables_cut k = unless_passes (not q.state.started) _ _ _ (ap not e) (unless_fails (whole 1 s (q.at + 1)) _ _ (byte_cut s (q.at + 1) k))
 
-  module _ (v : ℕ) (k : byte_in s (q.at + 1) ≡ B.Whole v) where
+  module _ (v : ℕ) (k : byte_in s (q.at + 1) ≡ Some v) where
     read : (whole 1 s (q.at + 1) ≡ true) × (number_at 1 s (q.at + 1) ≡ v)
     read = byte_whole s (q.at + 1) v k
 
@@ -95,10 +94,10 @@ module _ (s : List ℕ) (q : Progress State) (e : q.state.started ≡ true) wher
   term_kept g k = unless_passes q.state.started _ _ _ e (ap (mapped with_work) (sym k))
 
   -- ---- W
-  pub weight_cut : amount_in s (q.at + 1) ≡ A.Cut → refused (numbered 3) ≡ on_weight s q
+  pub weight_cut : amount_in s (q.at + 1) ≡ None → refused (numbered 3) ≡ on_weight s q
   weight_cut k = unless_passes q.state.started _ _ _ e (unless_fails (whole 8 s (q.at + 1)) _ _ (amount_cut s (q.at + 1) k))
 
-  module _ (v : ℤ) (k : amount_in s (q.at + 1) ≡ A.Whole v) where
+  module _ (v : ℤ) (k : amount_in s (q.at + 1) ≡ Some v) where
     amount_read : (whole 8 s (q.at + 1) ≡ true) × (signed_at s (q.at + 1) ≡ v)
     amount_read = amount_whole s (q.at + 1) v k
 
@@ -114,10 +113,10 @@ module _ (s : List ℕ) (q : Progress State) (e : q.state.started ≡ true) wher
         (ap (λ (w : ℤ). with_item q 9 [] (weighted q.state.work w)) (sym amount_read.1))))
 
   -- ---- C
-  pub clause_short : clause_in s (q.at + 1) ≡ C.Cut → refused (numbered 3) ≡ on_clause s q
+  pub clause_short : clause_in s (q.at + 1) ≡ None → refused (numbered 3) ≡ on_clause s q
   clause_short k = unless_passes q.state.started _ _ _ e (unless_fails (whole 16 s (q.at + 1)) _ _ (clause_cut s (q.at + 1) k))
 
-  module _ (x y : ℕ) (v : ℤ) (k : clause_in s (q.at + 1) ≡ C.Whole x y v) where
+  module _ (b : Clause) (k : clause_in s (q.at + 1) ≡ Some b) where
     abbrev known : ℕ → Bool
     known t = ltb t (2 ^ q.state.variables)
 
@@ -127,40 +126,40 @@ module _ (s : List ℕ) (q : Progress State) (e : q.state.started ≡ true) wher
         unless (known x && known y) 6 (unless (weight_fits v) 8 (passing (short (clause_of x y) ∷ [])
         (with_item q 17 q.state.work (weighted (clause_of x y) v))))
 
-    clause_read : (whole 16 s (q.at + 1) ≡ true) × ((number_at 4 s (q.at + 1) ≡ x) × (number_at 4 s (q.at + 1 + 4) ≡ y) × (signed_at s (q.at + 1 + 8) ≡ v))
-    clause_read = clause_whole s (q.at + 1) x y v k
+    clause_read : (whole 16 s (q.at + 1) ≡ true) × ((number_at 4 s (q.at + 1) ≡ b.plain) × (number_at 4 s (q.at + 1 + 4) ≡ b.negated) × (signed_at s (q.at + 1 + 8) ≡ b.weight))
+    clause_read = clause_whole s (q.at + 1) b k
 
-    on_rest : (r : Outcome (Progress State)) → r ≡ rest x y v → r ≡ on_clause s q
+    on_rest : (r : Outcome (Progress State)) → r ≡ rest b.plain b.negated b.weight → r ≡ on_clause s q
     on_rest r h =
         let i : q.at + 1 + 4 ≡ q.at + 5 = omega arith in
         let j : q.at + 1 + 8 ≡ q.at + 9 = omega arith in
-        let y_is : number_at 4 s (q.at + 5) ≡ y = rw i at clause_read.1.1 in
-        let v_is : signed_at s (q.at + 9) ≡ v = rw j at clause_read.1.2 in
+        let y_is : number_at 4 s (q.at + 5) ≡ b.negated = rw i at clause_read.1.1 in
+        let v_is : signed_at s (q.at + 9) ≡ b.weight = rw j at clause_read.1.2 in
         unless_passes q.state.started _ _ _ e (unless_passes (whole 16 s (q.at + 1)) _ _ _ clause_read.0
-        (h ∙ sym (ap (λ (t : ℕ). rest t y v) clause_read.1.0) ∙ sym (ap₂ (λ (t : ℕ) (w : ℤ). rest (number_at 4 s (q.at + 1)) t w) y_is v_is)))
+        (h ∙ sym (ap (λ (t : ℕ). rest t b.negated b.weight) clause_read.1.0) ∙ sym (ap₂ (λ (t : ℕ) (w : ℤ). rest (number_at 4 s (q.at + 1)) t w) y_is v_is)))
 
-    pub plain_unknown : known x ≡ false → refused (numbered 6) ≡ on_clause s q
-    plain_unknown i = on_rest _ (unless_fails (known x && known y) _ _ (rw i))
+    pub plain_unknown : known b.plain ≡ false → refused (numbered 6) ≡ on_clause s q
+    plain_unknown i = on_rest _ (unless_fails (known b.plain && known b.negated) _ _ (rw i))
 
-    module _ (i : known x ≡ true) where
-      pub negated_unknown : known y ≡ false → refused (numbered 6) ≡ on_clause s q
-      negated_unknown j = on_rest _ (unless_fails (known x && known y) _ _ (rw (i, j)))
+    module _ (i : known b.plain ≡ true) where
+      pub negated_unknown : known b.negated ≡ false → refused (numbered 6) ≡ on_clause s q
+      negated_unknown j = on_rest _ (unless_fails (known b.plain && known b.negated) _ _ (rw (i, j)))
 
-      module _ (j : known y ≡ true) where
-        all_known : (known x && known y) ≡ true
+      module _ (j : known b.negated ≡ true) where
+        all_known : (known b.plain && known b.negated) ≡ true
         all_known = rw (i, j)
 
-        pub clause_out : weight_fits v ≡ false → refused (numbered 8) ≡ on_clause s q
-        clause_out l = on_rest _ (unless_passes (known x && known y) _ _ _ all_known (unless_fails (weight_fits v) _ _ l))
+        pub clause_out : weight_fits b.weight ≡ false → refused (numbered 8) ≡ on_clause s q
+        clause_out l = on_rest _ (unless_passes (known b.plain && known b.negated) _ _ _ all_known (unless_fails (weight_fits b.weight) _ _ l))
 
-        module _ (l : weight_fits v ≡ true) where
-          pub clause_long : (r : ℕ) → r ≡ length (clause_of x y) → 64 < r → refused (too_long r) ≡ on_clause s q
+        module _ (l : weight_fits b.weight ≡ true) where
+          pub clause_long : (r : ℕ) → r ≡ length (clause_of b.plain b.negated) → 64 < r → refused (too_long r) ≡ on_clause s q
           clause_long r z m =
-              on_rest _ (unless_passes (known x && known y) _ _ _ all_known (unless_passes (weight_fits v) _ _ _ l (rw z (unless_fails (leb (length (clause_of x y)) 64) _ _ (lt-leb _ 64 (rw z at m))))))
+              on_rest _ (unless_passes (known b.plain && known b.negated) _ _ _ all_known (unless_passes (weight_fits b.weight) _ _ _ l (rw z (unless_fails (leb (length (clause_of b.plain b.negated)) 64) _ _ (lt-leb _ 64 (rw z at m))))))
 
-          pub clause_in_lem : length (clause_of x y) ≤ 64 → with_item q 17 q.state.work (weighted (clause_of x y) v) ≡ on_clause s q
+          pub clause_in_lem : length (clause_of b.plain b.negated) ≤ 64 → with_item q 17 q.state.work (weighted (clause_of b.plain b.negated) b.weight) ≡ on_clause s q
           clause_in_lem m =
-              on_rest _ (unless_passes (known x && known y) _ _ _ all_known (unless_passes (weight_fits v) _ _ _ l (unless_passes (leb (length (clause_of x y)) 64) _ _ _ (le-leb _ 64 m) refl)))
+              on_rest _ (unless_passes (known b.plain && known b.negated) _ _ _ all_known (unless_passes (weight_fits b.weight) _ _ _ l (unless_passes (leb (length (clause_of b.plain b.negated)) 64) _ _ _ (le-leb _ 64 m) refl)))
 
 -- the polynomial of a clause that is not too long
 pub measured_terms : (l : List ℕ) (o : Measured) → o ≡ measured_of l → o.length ≤ 64 → (terms_of o.polynomial ≡ l) × (length l ≤ 64)

@@ -12,7 +12,7 @@ use crate::read::{read_clause, read_weight};
 use crate::{Progress, Recorded};
 use hard::{append, number_of};
 use polynomial::{Polynomial, front};
-use record::{Byte, read_byte};
+use record::read_byte;
 use refusal::{Objection, Reason};
 use replacement::add;
 use walk::add_term;
@@ -71,7 +71,7 @@ pub fn on_variables(bytes: &[u8], p: Progress) -> Recorded
     if p.started {
         return refused(p, Reason::Misplaced);
     }
-    let Byte::Whole(variables) = read_byte(bytes, p.at + 1) else {
+    let Some(variables) = read_byte(bytes, p.at + 1) else {
         return refused(p, Reason::CutShort);
     };
     if 32 < variables {

@@ -8,7 +8,7 @@ ghost use Rattle.problem.specs.Held.{Brings};
 use crate::Progress;
 use configuration::form::is_term;
 use polynomial::Polynomial;
-use record::{Amount, Clause, read_amount, read_clause as read_body};
+use record::{read_amount, read_clause as read_body};
 use refusal::{Objection, Reason};
 
 // A weight, and what is found against its record.
@@ -55,7 +55,7 @@ pub fn read_weight(bytes: &[u8], p: Progress) -> Weight
     if !p.started {
         return no_weight(Reason::Misplaced);
     }
-    let Amount::Whole(weight) = read_amount(bytes, p.at + 1) else {
+    let Some(weight) = read_amount(bytes, p.at + 1) else {
         return no_weight(Reason::CutShort);
     };
     if !weight_fits(weight) {
@@ -87,26 +87,26 @@ pub fn read_clause(bytes: &[u8], p: Progress) -> Weighted
     if !p.started {
         return no_polynomial(Reason::Misplaced);
     }
-    let Clause::Whole(plain, negated, weight) = read_body(bytes, p.at + 1) else {
+    let Some(body) = read_body(bytes, p.at + 1) else {
         return no_polynomial(Reason::CutShort);
     };
-    if !is_term(p.variables, plain) {
+    if !is_term(p.variables, body.plain) {
         return no_polynomial(Reason::UnknownVariable);
     }
-    if !is_term(p.variables, negated) {
+    if !is_term(p.variables, body.negated) {
         return no_polynomial(Reason::UnknownVariable);
     }
-    if !weight_fits(weight) {
+    if !weight_fits(body.weight) {
         return no_polynomial(Reason::OutOfRange);
     }
-    let clause = Polynomial::clause(plain, negated);
+    let clause = Polynomial::clause(body.plain, body.negated);
     if 64 < clause.length {
         return no_polynomial(Reason::TooManyTerms(clause.length as u64));
     }
     let polynomial = clause.polynomial;
     Weighted {
         polynomial,
-        weight,
+        weight: body.weight,
         objection: Objection::Nothing,
     }
 }

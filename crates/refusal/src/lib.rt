@@ -4,7 +4,7 @@
 ghost use Rattle.std.specs.Prelude.{◌≡◌};
 ghost use Rattle.refusal.specs.Refusal.{refusal_of};
 
-#[derive(Clone, Copy)]
+#[derive(Clone, Copy, Debug, PartialEq, Eq)]
 pub enum Reason {
     // A lent area has another length than it must have.
     WrongLength,
@@ -44,6 +44,13 @@ pub enum Reason {
     TooManyHard,
     // There is no hard polynomial of this number.
     NoSuchHard,
+}
+
+// What an operation refuses, and why: the number of the record, or 0 where it is what was lent.
+#[derive(Clone, Copy)]
+pub struct Refused {
+    pub record: u64,
+    pub reason: Reason,
 }
 
 // What is found against something, if anything.

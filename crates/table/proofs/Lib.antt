@@ -8,3 +8,6 @@ pub mod Places
 pub mod Written
 pub mod Lined
 pub mod Turns
+pub mod Small
+pub mod Located
+pub mod Changed

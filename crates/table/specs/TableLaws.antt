@@ -4,7 +4,7 @@ use Rattle.std.proofs.Common.{◌∙◌, ap, sym, add-one, le_of_suc-le-suc, not
 use Rattle.term.specs.OrderLaws.{key_degree}
 use Rattle.configuration.specs.Configuration.{Line, line}
 use Rattle.table.specs.Rows.{first_key}
-use Rattle.table.specs.Table.{no_line, terms_at, weight_at, first_degree, leading_degree}
+use Rattle.table.specs.Table.{no_line, terms_at, weight_at, leading_degree}
 
 -- the line at a place
 pub line_is : (L : List Line) (i : ℕ) (d : Line) → i < length L → get_or L i d ≡ line (terms_at L i) (weight_at L i)
@@ -18,9 +18,6 @@ lines_after L i h =
     drop-cons L i no_line h ∙ ap (λ (x : Line). x ∷ drop (suc i) L) (line_is L i no_line h) ∙ ap (λ (k : ℕ). line (terms_at L i) (weight_at L i) ∷ drop k L) (sym (add-one i))
 
 -- the key of a term of 32 bits has its degree
-key_leading : (f : List ℕ) → get_or f 0 0 < 2 ^ 32 → first_key f / 2 ^ 32 ≡ leading_degree f
+pub key_leading : (f : List ℕ) → get_or f 0 0 < 2 ^ 32 → first_key f / 2 ^ 32 ≡ leading_degree f
 key_leading [] h = refl
 key_leading (t ∷ f) h = key_degree t h
-
-pub first_degree_is : (L : List Line) → get_or (terms_at L 0) 0 0 < 2 ^ 32 → first_degree L ≡ leading_degree (terms_at L 0)
-first_degree_is L h = key_leading (terms_at L 0) h

@@ -5,15 +5,27 @@
 pub mod lines;
 pub mod order;
 
-ghost use Rattle.std.specs.Prelude.{◌≡◌, not, List, [], ◌++◌, ◌∷◌, ◌*◌, ◌≤◌, ◌<◌, ◌^◌, T, ◌+ℤ◌, length};
+ghost use Rattle.std.specs.Prelude.{◌≡◌, not, List, [], ◌++◌, ◌∷◌, suc, ◌*◌, ◌≤◌, ◌<◌, ◌^◌, true, false, T, ◌+ℤ◌, length, take, drop, MatchResult};
 ghost use Rattle.std.specs.Int.Signed.{mag};
+ghost use Rattle.polynomial.specs.Polynomial.{order_of};
 ghost use Rattle.configuration.specs.Configuration.{Line, line, some, weight, add, IsInOrder, place_of, any_negative};
 ghost use Rattle.configuration.specs.LineLaws.{IsShort};
-ghost use Rattle.table.specs.Rows.{table_at, lines_of, first_key, Fits};
-ghost use Rattle.table.specs.Table.{terms_at, weight_at, first_degree};
+ghost use Rattle.table.specs.Rows.{table_at, lines_of, first_key};
+ghost use Rattle.table.specs.Table.{IsKept, terms_at, weight_at, first_degree, Located};
 
-use lines::Known;
+use configuration::weight::is_negative;
+use order::{ahead, insert_entry, key_at, remove_entry, row_at};
+use polynomial::area::write;
+use polynomial::order::{compare, least};
+use std::cmp::Ordering;
 use std::marker::Model;
+
+// Where a polynomial stands, or would stand, and its weight: 0 if it is not held.
+#[derive(Clone, Copy)]
+pub struct Known {
+    pub at: usize,
+    pub weight: i64,
+}
 
 /// A configuration as the list of its lines: at most `ROWS`, with 64 places of `TERMS` for the terms of each.
 #[derive(Drop)]
@@ -36,9 +48,11 @@ impl<const ROWS: usize, const TERMS: usize> Model for Table<ROWS, TERMS> {
 
     ghost view = { λ t. lines_of (table_at t.lines t.order t.terms t.weights t.counts) };
 
-    ghost invariant = { λ t. Fits ROWS (table_at t.lines t.order t.terms t.weights t.counts) };
+    ghost invariant = { λ t. IsKept ROWS (table_at t.lines t.order t.terms t.weights t.counts) };
 }
 
+// A method that calls another on the table reads a field first, if only to let it be: with the invariant the size of the table is
+// known, as each call asks.
 impl<const ROWS: usize, const TERMS: usize> Table<ROWS, TERMS> {
     // No lines.
     pub fn new() -> Self
@@ -76,8 +90,11 @@ impl<const ROWS: usize, const TERMS: usize> Table<ROWS, TERMS> {
         ensures some { T (some result.now) }
         ensures short { length result.now ≤ 64 }
     {
-        let here = order::row_at(&self.order, at);
-        lines::row(&self.terms, here, self.counts[here] as usize)
+        let terms = &self.terms[..];
+        let here = row_at(&self.order, at);
+        let start = 64 * here;
+        let end = start + self.counts[here] as usize;
+        &terms[start..end]
     }
 
     // Its weight.
@@ -85,7 +102,7 @@ impl<const ROWS: usize, const TERMS: usize> Table<ROWS, TERMS> {
         requires { at < length self.now }
         ensures { result ≡ weight_at self.now at }
     {
-        let here = order::row_at(&self.order, at);
+        let here = row_at(&self.order, at);
         self.weights[here]
     }
 
@@ -94,7 +111,52 @@ impl<const ROWS: usize, const TERMS: usize> Table<ROWS, TERMS> {
         requires { at < length self.now }
         ensures { result ≡ first_key (terms_at self.now at) }
     {
-        order::key_at(&self.order, at)
+        key_at(&self.order, at)
+    }
+
+    // Where a polynomial, not 0, stands beside the line at a place. The key of its first term is given, and the keys are compared
+    // first.
+    fn order_at(&self, at: usize, f: &[u32], first: u64) -> Ordering
+        requires at { at < length self.now }
+        requires some { T (some f.now) }
+        requires first { first ≡ first_key f.now }
+        ensures { result ≡ order_of f.now (terms_at self.now at) }
+    {
+        if key_at(&self.order, at) < first {
+            return Ordering::Less;
+        }
+        compare(f, self.terms(at))
+    }
+
+    // Finds the place of a polynomial, not 0, whose first term has the given key, or else where it would stand: by the keys of the
+    // first terms, then from the first line that is not ahead by its key. Few lines share a first term, so that line is looked at
+    // first, and each probe reaches twice as far as the one before, at most to the middle of the rest.
+    fn find(&self, f: &[u32], first: u64) -> Result<usize, usize>
+        requires some { T (some f.now) }
+        requires first { first ≡ first_key f.now }
+        ensures { MatchResult result (λ at. Located self.now f.now at true) (λ at. Located self.now f.now at false) }
+    {
+        let mut high = self.lines;
+        let mut low = ahead(high, &self.order, first);
+        let mut middle = low;
+        let mut reach: usize = 0;
+        while low < high {
+            let side = self.order_at(middle, f, first);
+            match side {
+                Ordering::Less => {
+                    high = middle;
+                }
+                Ordering::Equal => {
+                    return Ok(middle);
+                }
+                Ordering::Greater => {
+                    low = middle + 1;
+                }
+            }
+            middle = low + least(reach, (high - low) / 2);
+            reach = least(2 * reach + 1, 127);
+        }
+        Err(low)
     }
 
     // Where a polynomial, not 0, stands or would stand, and its weight. The key of its first term is given.
@@ -104,15 +166,14 @@ impl<const ROWS: usize, const TERMS: usize> Table<ROWS, TERMS> {
         ensures at { result.at ≡ place_of f.now self.now }
         ensures weight { result.weight ≡ weight self.now f.now }
     {
-        lines::look_up(
-            self.lines,
-            &self.order,
-            &self.terms,
-            &self.weights,
-            &self.counts,
-            f,
-            first,
-        )
+        let _ = &self.lines;
+        match self.find(f, first) {
+            Ok(at) => Known {
+                at,
+                weight: self.weight(at),
+            },
+            Err(at) => Known { at, weight: 0 },
+        }
     }
 
     // The weight of a polynomial, not 0: 0 if it is not held.
@@ -120,14 +181,49 @@ impl<const ROWS: usize, const TERMS: usize> Table<ROWS, TERMS> {
         requires { T (some f.now) }
         ensures { result ≡ weight self.now f.now }
     {
-        lines::weight_of(
-            self.lines,
-            &self.order,
-            &self.terms,
-            &self.weights,
-            &self.counts,
-            f,
-        )
+        let _ = &self.lines;
+        let first = term::key(f[0]);
+        self.look_up(f, first).weight
+    }
+
+    // Puts a line, whose first term has the given key, in at a place, in the first row that is free.
+    fn insert(&mut self, at: usize, f: &[u32], first: u64, weight: i64)
+        requires at { at ≤ length self.old }
+        requires room { length self.old < ROWS }
+        requires some { T (some f.now) }
+        requires short { length f.now ≤ 64 }
+        requires first { first ≡ first_key f.now }
+        requires ordered { IsInOrder (take at self.old ++ line f.now weight ∷ drop at self.old) }
+        ensures { self.new ≡ take at self.old ++ line f.now weight ∷ drop at self.old }
+    {
+        let lines = self.lines;
+        let here = row_at(&self.order, lines);
+        insert_entry(&mut self.order, at, lines, 128 * first + (here as u64));
+        write(&mut self.terms, 64 * here, f);
+        self.weights[here] = weight;
+        self.counts[here] = f.len() as u32;
+        self.lines = lines + 1;
+    }
+
+    // Takes the line at a place out: its row is free, and what it holds stays there.
+    fn remove(&mut self, at: usize)
+        requires { at < length self.old }
+        ensures { self.new ≡ take at self.old ++ drop (suc at) self.old }
+    {
+        let lines = self.lines;
+        let here = row_at(&self.order, at);
+        remove_entry(&mut self.order, at, lines, here as u64);
+        self.lines = lines - 1;
+    }
+
+    // Weighs the line at a place anew.
+    fn set_weight(&mut self, at: usize, weight: i64)
+        requires at { at < length self.old }
+        requires ordered { IsInOrder (take at self.old ++ line (terms_at self.old at) weight ∷ drop (suc at) self.old) }
+        ensures { self.new ≡ take at self.old ++ line (terms_at self.old at) weight ∷ drop (suc at) self.old }
+    {
+        let here = row_at(&self.order, at);
+        self.weights[here] = weight;
     }
 
     // Folds a weighted polynomial, not 0, in at its place, where the key of its first term is given and what is known of it.
@@ -141,18 +237,19 @@ impl<const ROWS: usize, const TERMS: usize> Table<ROWS, TERMS> {
         requires room { length (add f.now amount self.old) ≤ ROWS }
         ensures { self.new ≡ add f.now amount self.old }
     {
-        self.lines = lines::fold_at(
-            self.lines,
-            &mut self.order,
-            &mut self.terms,
-            &mut self.weights,
-            &mut self.counts,
-            known.at,
-            f,
-            known.weight,
-            first,
-            amount,
-        );
+        let _ = &self.lines;
+        let at = known.at;
+        let old = known.weight;
+        if old != 0 {
+            let sum = old + amount;
+            if sum == 0 {
+                return self.remove(at);
+            }
+            return self.set_weight(at, sum);
+        }
+        if amount != 0 {
+            self.insert(at, f, first, amount);
+        }
     }
 
     // Folds a weighted polynomial in: an equal polynomial's weight is added up, a weight or polynomial 0 vanishes.
@@ -162,15 +259,13 @@ impl<const ROWS: usize, const TERMS: usize> Table<ROWS, TERMS> {
         requires room { length (add f.now amount self.old) ≤ ROWS }
         ensures { self.new ≡ add f.now amount self.old }
     {
-        self.lines = lines::fold_in(
-            self.lines,
-            &mut self.order,
-            &mut self.terms,
-            &mut self.weights,
-            &mut self.counts,
-            f,
-            amount,
-        );
+        if f.is_empty() {
+            return;
+        }
+        let _ = &self.lines;
+        let first = term::key(f[0]);
+        let known = self.look_up(f, first);
+        self.add_at(known, f, first, amount);
     }
 
     // Puts a line behind all others.
@@ -180,22 +275,20 @@ impl<const ROWS: usize, const TERMS: usize> Table<ROWS, TERMS> {
         requires ordered { IsInOrder (self.old ++ line f.now weight ∷ []) }
         ensures { self.new ≡ self.old ++ line f.now weight ∷ [] }
     {
-        self.lines = lines::append(
-            self.lines,
-            &mut self.order,
-            &mut self.terms,
-            &mut self.weights,
-            &mut self.counts,
-            f,
-            weight,
-        );
+        let first = term::key(f[0]);
+        let end = self.lines;
+        self.insert(end, f, first, weight);
     }
 
-    // Whether no line is negative.
+    // Whether no line is negative: the bits of the weights are joined, without a branch, and the sign is that of any negative one.
     pub fn none_negative(&self) -> bool
         ensures { result ≡ not (any_negative self.now) }
     {
-        lines::none_negative(self.lines, &self.order, &self.weights)
+        let mut bits: i64 = 0;
+        for entry in &self.order[..self.lines] {
+            bits |= self.weights[(*entry % 128) as usize];
+        }
+        !is_negative(bits)
     }
 
     // The degree of the first term of the first line, the largest of all: the order has its key. It is 0 where there is no line.
@@ -205,6 +298,6 @@ impl<const ROWS: usize, const TERMS: usize> Table<ROWS, TERMS> {
         if self.lines == 0 {
             return 0;
         }
-        (order::key_at(&self.order, 0) / 4294967296) as u32
+        (key_at(&self.order, 0) / 4294967296) as u32
     }
 }

@@ -5,6 +5,7 @@ ghost use Rattle.polynomial.specs.Polynomial.{order_of};
 ghost use Rattle.configuration.specs.Configuration.{line, some, weight, add, IsInOrder, place_of, is_held, any_negative};
 ghost use Rattle.table.specs.Rows.{table_at, row_of, key_in, lines_of, capacity_of, Once, first_key, Fits, Holds};
 
+pub use crate::Known;
 use crate::order::{ahead, insert_entry, remove_entry, row_at};
 use configuration::weight::is_negative;
 use polynomial::Polynomial;
@@ -92,13 +93,6 @@ fn find(
         at: low,
         held: false,
     }
-}
-
-// Where a polynomial stands, or would stand, and its weight: 0 if it is not held.
-#[derive(Clone, Copy)]
-pub struct Known {
-    pub at: usize,
-    pub weight: i64,
 }
 
 // Looks up a polynomial, not 0, whose first term has the given key. It is for this crate and `replacement`.

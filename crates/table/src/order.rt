@@ -32,7 +32,8 @@ fn above(entry: u64, key: u64) -> usize
 }
 
 // How many of the first entries have a key above the given one, by halving: the answer lies from `low` to `low + size`. It is
-// for this crate's search in `lines`, where keys fall.
+// for this crate's searches, where keys fall. The loop has no branch but its end, since nothing could guess the others: `low`
+// grows by a product.
 pub fn ahead(lines: usize, order: &[u64], key: u64) -> usize
     requires { (lines ≤ length order.now) × IsFalling (take lines order.now) × (key < 2 ^ 38) }
     ensures { result ≡ leading key (take lines order.now) }
@@ -66,11 +67,7 @@ pub fn insert_entry(order: &mut [u64], at: usize, end: usize, entry: u64)
     requires { (at ≤ end) × (end < length order.old) }
     ensures { let is = order.old in order.new ≡ take at is ++ (entry ∷ (slice at end is ++ drop (end + 1) is)) }
 {
-    let mut i = end;
-    while at < i {
-        i -= 1;
-        order[i + 1] = order[i];
-    }
+    order.copy_within(at..end, at + 1);
     order[at] = entry;
 }
 
@@ -80,10 +77,6 @@ pub fn remove_entry(order: &mut [u64], at: usize, end: usize, entry: u64)
     requires { (at < end) × (end ≤ length order.old) }
     ensures { let is = order.old in order.new ≡ take at is ++ (slice (at + 1) end is ++ (entry ∷ drop end is)) }
 {
-    let mut i = at + 1;
-    while i < end {
-        order[i - 1] = order[i];
-        i += 1;
-    }
+    order.copy_within(at + 1..end, at);
     order[end - 1] = entry;
 }

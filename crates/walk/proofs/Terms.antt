@@ -10,7 +10,7 @@ use Rattle.refusal.specs.Refusal.{numbered, too_long}
 use Rattle.refusal.specs.Outcome.{Stop, nothing, refused_for, Reached, after}
 use Rattle.polynomial.specs.Polynomial.{sum_of}
 use Rattle.record.specs.Record.{whole, number_at, mask_in}
-use Rattle.record.specs.declared.Mask.TheVariants.{Whole, Cut}
+use Rattle.std.specs.declared.option.Option.TheVariants.{Some, None}
 use Rattle.record.proofs.Bodies.{mask_cut, mask_whole}
 use Rattle.walk.specs.Work.{term_added}
 
@@ -21,11 +21,11 @@ module _ (n : ℕ) (s : List ℕ) (at : ℕ) (f : List ℕ) where
   abbrev told : Reached (List ℕ)
   told = after f (term_added n s at f)
 
-  pub cut_short : mask_in s at ≡ Cut → stopped f (refused_for (numbered 3)) ≡ told
+  pub cut_short : mask_in s at ≡ None → stopped f (refused_for (numbered 3)) ≡ told
   unfolding term_added
   cut_short e = rw (mask_cut s at e)
 
-  module _ (m : ℕ) (e : mask_in s at ≡ Whole m) where
+  module _ (m : ℕ) (e : mask_in s at ≡ Some m) where
     is_whole : whole 4 s at ≡ true
     is_whole = (mask_whole s at m e).0
 

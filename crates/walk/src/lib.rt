@@ -8,7 +8,7 @@ ghost use Rattle.walk.specs.Work.{term_added};
 
 use configuration::form::is_term;
 use polynomial::toggle::toggle;
-use record::{Mask, read_mask};
+use record::read_mask;
 use refusal::{Objection, Reason};
 
 // How many terms the work polynomial has after a record, and the answer for the record.
@@ -37,7 +37,7 @@ pub fn add_term(variables: u32, bytes: &[u8], at: usize, work: &mut [u32], count
         record { reached = take result.count work.new; stop = stop_of result.objection } ≡ after f (term_added variables bytes.now at f) }
     ensures room { result.count ≤ 64 }
 {
-    let Mask::Whole(mask) = read_mask(bytes, at) else {
+    let Some(mask) = read_mask(bytes, at) else {
         return refused(count, Reason::CutShort);
     };
     if !is_term(variables, mask) {

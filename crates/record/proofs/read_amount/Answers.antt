@@ -1,18 +1,12 @@
--- `record::read_amount` meets its contract: the two tests decide whether the body is whole, and the amount is what `signed_number` ensures. Assumes nothing.
-use native.Mathlib.Omega.{arith}
+-- `record::read_amount` meets its contract: the chunk at the front of the rest is the amount's bytes. Assumes nothing.
 use mir.Syntax.{w64}
 use mir.Facts.{to_z-of_z}
 use borrow.Author.Rules.{rules}
-use Rattle.record.proofs.Numbers.{is_whole, is_cut}
+use Rattle.record.proofs.Numbers.{amount_read}
 use Rattle.record.proofs.read_amount.Goals as goal
-
-pub returns-then-bytes-lt8 : goal.returns-then-bytes-lt8
-returns-then-bytes-lt8 c = rw (is_cut 8 c.args.bytes.now c.args.at (omega arith))
-
-pub returns-then-bytes-at : goal.returns-then-bytes-at
-returns-then-bytes-at c = rw (is_cut 8 c.args.bytes.now c.args.at (omega arith))
 
 pub returns : goal.returns
 returns c =
-    let e = to_z-of_z {w = w64} {z = c.signed_number.result} (record { sfits = search rules }) in
-    rw (is_whole 8 c.args.bytes.now c.args.at (omega arith), e, c.signed_number.ensures)
+    let inside = c.in_ok-get.ensures.lookup.0 in
+    rw (to_z-of_z {w = w64} {z = c.from_le_bytes.result} (record { sfits = search rules }))
+    (amount_read _ _ _ _ _ inside.0 inside.2 c.in_ok-amount.ensures.cases c.from_le_bytes.ensures)

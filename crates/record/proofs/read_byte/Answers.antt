@@ -1,11 +1,7 @@
--- `record::read_byte` meets its contract: the test decides whether the body is whole, and the byte is the number of one byte. Assumes nothing.
-use native.Mathlib.Omega.{arith}
-use Rattle.record.proofs.Numbers.{one_byte, is_whole, is_cut}
+-- `record::read_byte` meets its contract: what `get` finds at the place is the body of one byte. Assumes nothing.
+use mathlib.Core.Path.{◌∙◌}
+use Rattle.record.proofs.Numbers.{byte_read}
 use Rattle.record.proofs.read_byte.Goals as goal
 
-pub returns-then-bytes-at : goal.returns-then-bytes-at
-returns-then-bytes-at c = rw (is_cut 1 c.args.bytes.now c.args.at (omega arith))
-
 pub returns : goal.returns
-returns c =
-    rw (is_whole 1 c.args.bytes.now c.args.at (omega arith), one_byte c.args.bytes.now c.args.at (omega arith))
+returns c = c.copied.ensures ∙ byte_read _ _ _ c.get.ensures.lookup

@@ -6,15 +6,15 @@ use native.Mathlib.Omega.{arith}
 use lib.Dec.{ltb}
 use lib.ListN.{take}
 use Rattle.record.specs.Record.{mask_in}
-use Rattle.record.specs.declared.Mask.TheVariants.{Whole}
+use Rattle.std.specs.declared.option.Option.TheVariants.{Some}
 use Rattle.walk.proofs.Terms.{cut_short, unknown, too_long_lem, added}
 use Rattle.walk.proofs.add_term.Goals as goal
 use Rattle.walk.proofs.add_term.Goals.{After-toggle-sum}
 
-read : (c : goal.After-toggle-sum) → mask_in c.args.bytes.now c.args.at ≡ Whole c.in-Whole.mask
-read c = sym c.read_mask.ensures ∙ c.in-Whole.is
+read : (c : goal.After-toggle-sum) → mask_in c.args.bytes.now c.args.at ≡ Some c.in-Some.mask
+read c = sym c.read_mask.ensures ∙ c.in-Some.is
 
-known : (c : goal.After-toggle-sum) → ltb c.in-Whole.mask (2 ^ c.args.variables) ≡ true
+known : (c : goal.After-toggle-sum) → ltb c.in-Some.mask (2 ^ c.args.variables) ≡ true
 known c = sym c.is_term.ensures ∙ c.if-not-is_term.false
 
 pub returns-in_default : goal.returns-in_default
@@ -29,7 +29,7 @@ returns-then-not-is_term c =
     let f = take a.count a.work.now in
     rw c.refused-then-not-is_term.ensures (record {
       sum = unknown a.variables a.bytes.now a.at f _
-          (sym c.read_mask.ensures ∙ c.in-Whole.is)
+          (sym c.read_mask.ensures ∙ c.in-Some.is)
           (sym c.is_term.ensures ∙ c.if-not-is_term.true);
       room = c.requires.1;
     })

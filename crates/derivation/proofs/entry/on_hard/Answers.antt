@@ -22,10 +22,9 @@ use Rattle.derivation.specs.Derivation.{on_hard}
 use Rattle.derivation.specs.Held.{progress_in, step_asked}
 use Rattle.derivation.proofs.Entries.{turned_down, Leaves-as}
 use Rattle.derivation.proofs.Steps.{hard_misplaced, hard_numberless, hard_cut, hard_whole}
-use Rattle.record.specs.declared.Byte.TheVariants as B
-use Rattle.record.specs.declared.Amount.TheVariants as A
+use Rattle.std.specs.declared.option.Option.TheVariants.{Some}
 use Rattle.derivation.proofs.entry.on_hard.Goals as goal
-use Rattle.derivation.proofs.entry.on_hard.Goals.{After-read_byte, After-taken, In-Whole, In-Whole-read_amount, Start}
+use Rattle.derivation.proofs.entry.on_hard.Goals.{After-read_byte, After-taken, In-Some, In-Some-read_amount, Start}
 
 abbrev bytes : goal.Start → List ℕ
 bytes s = s.args.bytes.now
@@ -63,11 +62,11 @@ returns-in_default c held =
     (hard_numberless (hards (goal.at.returns-in_default c).Start) (bytes (goal.at.returns-in_default c).Start) a.p fs us (table (goal.at.returns-in_default c).Start) (can_step (goal.at.returns-in_default c).After-read_byte) d)
 
 -- the number that was read
-abbrev number : goal.In-Whole → ℕ
-number k = k.in-Whole.number
+abbrev number : goal.In-Some → ℕ
+number k = k.in-Some.number
 
-numbered : (k : goal.In-Whole) → (byte_in (bytes (goal.at.In-Whole k).Start) (k.args.p.at + 1) ≡ B.Whole (number k))
-numbered k = sym k.read_byte.ensures ∙ k.in-Whole.is
+numbered : (k : goal.In-Some) → (byte_in (bytes (goal.at.In-Some k).Start) (k.args.p.at + 1) ≡ Some (number k))
+numbered k = sym k.read_byte.ensures ∙ k.in-Some.is
 
 pub overflow_add-p-2 : goal.overflow_add-p-2
 overflow_add-p-2 c =
@@ -83,20 +82,20 @@ returns-in_default-read_amount c held =
     (hard_cut (hards (goal.at.returns-in_default-read_amount c).Start) (bytes (goal.at.returns-in_default-read_amount c).Start) a.p fs us (table (goal.at.returns-in_default-read_amount c).Start) (can_step (goal.at.returns-in_default-read_amount c).After-read_byte) d)
 
 -- the amount that was read
-abbrev amount : goal.In-Whole-read_amount → ℤ
-amount k = k.in-Whole-read_amount.amount
+abbrev amount : goal.In-Some-read_amount → ℤ
+amount k = k.in-Some-read_amount.amount
 
-amount_is : (k : goal.In-Whole-read_amount) → to_z w64 (of_z w64 (amount k)) ≡ amount k
+amount_is : (k : goal.In-Some-read_amount) → to_z w64 (of_z w64 (amount k)) ≡ amount k
 amount_is k = to_z-of_z {w = w64} {z = amount k} (record { sfits = search rules })
 
-read : (k : goal.In-Whole-read_amount) → (amount_in (bytes (goal.at.In-Whole-read_amount k).Start) (k.args.p.at + 2) ≡ A.Whole (amount k))
-read k = sym k.read_amount.ensures ∙ k.in-Whole-read_amount.is
+read : (k : goal.In-Some-read_amount) → (amount_in (bytes (goal.at.In-Some-read_amount k).Start) (k.args.p.at + 2) ≡ Some (amount k))
+read k = sym k.read_amount.ensures ∙ k.in-Some-read_amount.is
 
 pub taken-requires : goal.taken-requires
 taken-requires c =
     let p = c.args.p in
     let h : p.at + 2 + 8 ≤ length (bytes (goal.at.taken-requires c).Start) =
-    leb→le (p.at + 2 + 8) (length (bytes (goal.at.taken-requires c).Start)) (of_true (amount_whole (bytes (goal.at.taken-requires c).Start) (p.at + 2) (amount (goal.at.taken-requires c).In-Whole-read_amount) (read (goal.at.taken-requires c).In-Whole-read_amount)).0) in
+    leb→le (p.at + 2 + 8) (length (bytes (goal.at.taken-requires c).Start)) (of_true (amount_whole (bytes (goal.at.taken-requires c).Start) (p.at + 2) (amount (goal.at.taken-requires c).In-Some-read_amount) (read (goal.at.taken-requires c).In-Some-read_amount)).0) in
     let b = c.well_formed.0 in
     (c.requires.1, c.requires.2, c.requires.3, omega arith, omega (arith, h, b))
 
@@ -116,8 +115,8 @@ returns c held =
     let fs = a.first.now in
     let us = a.work.now in
     let q = progress_in a.p fs us (table (goal.at.returns c).Start) in
-    let i = number (goal.at.returns c).In-Whole in
+    let i = number (goal.at.returns c).In-Some in
     Leaves-as a.p fs us (table (goal.at.returns c).Start) c.taken.result fs us (last (goal.at.returns c).After-taken) (on_hard (hards (goal.at.returns c).Start) (bytes (goal.at.returns c).Start) q)
-    (step_asked (hards (goal.at.returns c).Start) (record { rule = Hard i; mode = a.p.mode; amount = amount (goal.at.returns c).In-Whole-read_amount }) 10 q)
-    (hard_whole (hards (goal.at.returns c).Start) (bytes (goal.at.returns c).Start) a.p fs us (table (goal.at.returns c).Start) (can_step (goal.at.returns c).After-read_byte) i (amount (goal.at.returns c).In-Whole-read_amount) (numbered (goal.at.returns c).In-Whole) (read (goal.at.returns c).In-Whole-read_amount))
-    (rw (amount_is (goal.at.returns c).In-Whole-read_amount) at (c.taken.ensures held))
+    (step_asked (hards (goal.at.returns c).Start) (record { rule = Hard i; mode = a.p.mode; amount = amount (goal.at.returns c).In-Some-read_amount }) 10 q)
+    (hard_whole (hards (goal.at.returns c).Start) (bytes (goal.at.returns c).Start) a.p fs us (table (goal.at.returns c).Start) (can_step (goal.at.returns c).After-read_byte) i (amount (goal.at.returns c).In-Some-read_amount) (numbered (goal.at.returns c).In-Some) (read (goal.at.returns c).In-Some-read_amount))
+    (rw (amount_is (goal.at.returns c).In-Some-read_amount) at (c.taken.ensures held))

@@ -16,14 +16,14 @@ use Rattle.refusal.specs.declared.Reason.TheVariants.{Misplaced, CutShort}
 use Rattle.hard.specs.Working.{hard_in}
 use Rattle.table.specs.Rows.{Table}
 use Rattle.record.specs.Record.{amount_in}
-use Rattle.record.specs.declared.Amount.TheVariants.{Whole}
+use Rattle.std.specs.declared.option.Option.TheVariants.{Some}
 use Rattle.record.proofs.Bodies.{amount_whole}
 use Rattle.derivation.specs.Derivation.{on_step}
 use Rattle.derivation.specs.Held.{progress_in, step_asked}
 use Rattle.derivation.proofs.Entries.{turned_down, Leaves-as}
 use Rattle.derivation.proofs.Steps.{step_misplaced, step_cut, step_whole}
 use Rattle.derivation.proofs.entry.on_step.Goals as goal
-use Rattle.derivation.proofs.entry.on_step.Goals.{After-read_amount, After-taken, In-Whole, Start}
+use Rattle.derivation.proofs.entry.on_step.Goals.{After-read_amount, After-taken, In-Some, Start}
 
 abbrev bytes : goal.Start → List ℕ
 bytes s = s.args.bytes.now
@@ -61,20 +61,20 @@ returns-in_default c held =
     (step_cut (hards (goal.at.returns-in_default c).Start) (bytes (goal.at.returns-in_default c).Start) a.p fs us (table (goal.at.returns-in_default c).Start) (can_step (goal.at.returns-in_default c).After-read_amount) a.rule d)
 
 -- the amount that was read
-abbrev amount : goal.In-Whole → ℤ
-amount k = k.in-Whole.amount
+abbrev amount : goal.In-Some → ℤ
+amount k = k.in-Some.amount
 
-amount_is : (k : goal.In-Whole) → to_z w64 (of_z w64 (amount k)) ≡ amount k
+amount_is : (k : goal.In-Some) → to_z w64 (of_z w64 (amount k)) ≡ amount k
 amount_is k = to_z-of_z {w = w64} {z = amount k} (record { sfits = search rules })
 
-read : (k : goal.In-Whole) → (amount_in (bytes (goal.at.In-Whole k).Start) (k.args.p.at + 1) ≡ Whole (amount k))
-read k = sym k.read_amount.ensures ∙ k.in-Whole.is
+read : (k : goal.In-Some) → (amount_in (bytes (goal.at.In-Some k).Start) (k.args.p.at + 1) ≡ Some (amount k))
+read k = sym k.read_amount.ensures ∙ k.in-Some.is
 
 pub taken-requires : goal.taken-requires
 taken-requires c =
     let p = c.args.p in
     let h : p.at + 1 + 8 ≤ length (bytes (goal.at.taken-requires c).Start) =
-    leb→le (p.at + 1 + 8) (length (bytes (goal.at.taken-requires c).Start)) (of_true (amount_whole (bytes (goal.at.taken-requires c).Start) (p.at + 1) (amount (goal.at.taken-requires c).In-Whole) (read (goal.at.taken-requires c).In-Whole)).0) in
+    leb→le (p.at + 1 + 8) (length (bytes (goal.at.taken-requires c).Start)) (of_true (amount_whole (bytes (goal.at.taken-requires c).Start) (p.at + 1) (amount (goal.at.taken-requires c).In-Some) (read (goal.at.taken-requires c).In-Some)).0) in
     let b = c.well_formed.0 in
     (c.requires.1, c.requires.2, c.requires.3, omega arith, omega (arith, h, b))
 
@@ -95,6 +95,6 @@ returns c held =
     let us = a.work.now in
     let q = progress_in a.p fs us (table (goal.at.returns c).Start) in
     Leaves-as a.p fs us (table (goal.at.returns c).Start) c.taken.result fs us (last (goal.at.returns c).After-taken) (on_step (hards (goal.at.returns c).Start) a.rule (bytes (goal.at.returns c).Start) q)
-    (step_asked (hards (goal.at.returns c).Start) (record { rule = a.rule; mode = a.p.mode; amount = amount (goal.at.returns c).In-Whole }) 9 q)
-    (step_whole (hards (goal.at.returns c).Start) (bytes (goal.at.returns c).Start) a.p fs us (table (goal.at.returns c).Start) (can_step (goal.at.returns c).After-read_amount) a.rule (amount (goal.at.returns c).In-Whole) (read (goal.at.returns c).In-Whole))
-    (rw (amount_is (goal.at.returns c).In-Whole) at (c.taken.ensures held))
+    (step_asked (hards (goal.at.returns c).Start) (record { rule = a.rule; mode = a.p.mode; amount = amount (goal.at.returns c).In-Some }) 9 q)
+    (step_whole (hards (goal.at.returns c).Start) (bytes (goal.at.returns c).Start) a.p fs us (table (goal.at.returns c).Start) (can_step (goal.at.returns c).After-read_amount) a.rule (amount (goal.at.returns c).In-Some) (read (goal.at.returns c).In-Some))
+    (rw (amount_is (goal.at.returns c).In-Some) at (c.taken.ensures held))

@@ -1,3 +1,4 @@
+-- `polynomial` meets its contract: the places from the first of its 64 on, as many as it has terms.
 use Rattle.std.proofs.Common.{◌≡◌, sym, ◌+◌, ◌-◌, ◌*◌, arith, rules, get_or}
 use Rattle.std.proofs.lemmas.Grind.{common_steps}
 use Rattle.hard.specs.HeldLaws.{held_count, held_one}

@@ -2,12 +2,6 @@ use Rattle.std.proofs.Common.{◌+◌, ◌-◌, ◌*◌, arith, refl}
 use Rattle.hard.proofs.Forms.{row_bad, row_good, rows_end}
 use Rattle.hard.proofs.form.rows_formed.Goals as goal
 
-pub returns-then-not-row_formed : goal.returns-then-not-row_formed
-returns-then-not-row_formed c =
-    let l = c.loop-i in
-    row_bad c.args.variables c.args.number l.i c.args.counts.now c.args.places.now _ l.invariant
-    (64 * l.i + 64 - 64 * l.i) (omega arith) c.loop-i-test.true (omega (arith, c.loop-i-test.true, c.requires)) _ c.row_formed.ensures c.if-not-row_formed.true
-
 pub loop-i-preserved : goal.loop-i-preserved
 loop-i-preserved c =
     let l = c.loop-i in

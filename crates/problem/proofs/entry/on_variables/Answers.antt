@@ -2,17 +2,17 @@
 use mathlib.Core.Path.{◌≡◌, sym, ◌∙◌}
 use Prim.Native.Nat.{◌+◌}
 use Rattle.record.specs.Record.{byte_in}
-use Rattle.record.specs.declared.Byte.TheVariants.{Whole}
+use Rattle.std.specs.declared.option.Option.TheVariants.{Some}
 use Rattle.problem.specs.Problem.{on_variables}
 use Rattle.problem.specs.Held.{progress_in}
 use Rattle.problem.proofs.Next.{refused_does, set_does}
 use Rattle.problem.proofs.Records.{second, variables_cut, too_many, variables_set}
 use Rattle.refusal.specs.declared.Reason.TheVariants as R
 use Rattle.problem.proofs.entry.on_variables.Goals as goal
-use Rattle.problem.proofs.entry.on_variables.Goals.{In-Whole}
+use Rattle.problem.proofs.entry.on_variables.Goals.{In-Some}
 
-read : (c : goal.In-Whole) → byte_in c.args.bytes.now (c.args.p.at + 1) ≡ Whole c.in-Whole.variables
-read c = sym c.read_byte.ensures ∙ c.in-Whole.is
+read : (c : goal.In-Some) → byte_in c.args.bytes.now (c.args.p.at + 1) ≡ Some c.in-Some.variables
+read c = sym c.read_byte.ensures ∙ c.in-Some.is
 
 pub returns-then-p : goal.returns-then-p
 returns-then-p c us hs t =
@@ -30,10 +30,10 @@ pub returns-then-variables-gt32 : goal.returns-then-variables-gt32
 returns-then-variables-gt32 c us hs t =
     let a = c.args in
     refused_does (on_variables a.bytes.now) a.p us hs t c.refused-then-variables-gt32.result R.TooManyVariables c.refused-then-variables-gt32.ensures
-    (too_many a.bytes.now (progress_in a.p us hs t) c.if-p.false _ (read (goal.at.returns-then-variables-gt32 c).In-Whole) c.if-variables-gt32.true)
+    (too_many a.bytes.now (progress_in a.p us hs t) c.if-p.false _ (read (goal.at.returns-then-variables-gt32 c).In-Some) c.if-variables-gt32.true)
 
 pub returns : goal.returns
 returns c us hs t =
     let a = c.args in
     set_does (on_variables a.bytes.now) a.p us hs t c.accepted.result _ c.accepted.ensures
-    (variables_set a.bytes.now (progress_in a.p us hs t) c.if-p.false _ (read (goal.at.returns c).In-Whole) c.if-variables-gt32.false)
+    (variables_set a.bytes.now (progress_in a.p us hs t) c.if-p.false _ (read (goal.at.returns c).In-Some) c.if-variables-gt32.false)

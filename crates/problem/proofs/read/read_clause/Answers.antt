@@ -4,7 +4,6 @@ use mathlib.Core.Bool.{true}
 use mathlib.Core.List.{List}
 use Prim.Native.Nat.{ℕ, ◌+◌, ◌^◌, ◌≤◌}
 use lib.Dec.{T, ltb}
-use lib.IntN.{ℤ}
 use lib.ListN.{length}
 use mir.Syntax.{w64}
 use mir.Val.{to_z, of_z}
@@ -15,7 +14,8 @@ use Rattle.run.specs.BooleanLaws.{of_true}
 use Rattle.polynomial.specs.Polynomial.{terms_of, clause_of}
 use Rattle.polynomial.specs.declared.Measured.{Measured}
 use Rattle.record.specs.Record.{clause_in}
-use Rattle.record.specs.declared.Clause.TheVariants.{Whole}
+use Rattle.record.specs.declared.Clause.{Clause}
+use Rattle.std.specs.declared.option.Option.TheVariants.{Some}
 use Rattle.refusal.specs.Refusal.{refusal_of}
 use Rattle.refusal.specs.Outcome.{refused}
 use Rattle.refusal.specs.declared.Reason.{Reason}
@@ -35,31 +35,25 @@ refuse : (s : goal.Start) → (reason : Reason) → (r : Weighted) → r.objecti
     × (r.objection ≡ Nothing → T (weight_fits r.weight))
 refuse s reason r = found (on_clause s.args.bytes.now) s.args.p 17 s.args.p.work (λ us. terms_of r.polynomial) r.weight r.objection reason
 
-abbrev plain : goal.After-weight_fits → ℕ
-plain c = c.in-Whole.plain
-
-abbrev negated : goal.After-weight_fits → ℕ
-negated c = c.in-Whole.negated
-
-abbrev weight : goal.After-weight_fits → ℤ
-weight c = c.in-Whole.weight
+abbrev body : goal.After-weight_fits → Clause
+body c = c.in-Some.body
 
 begun : (c : goal.After-weight_fits) → c.args.p.started ≡ true
 begun c = not-false _ c.if-not-p.false
 
-read : (c : goal.After-weight_fits) → clause_in c.args.bytes.now (c.args.p.at + 1) ≡ Whole (plain c) (negated c) (weight c)
-read c = sym c.read_clause.ensures ∙ c.in-Whole.is
+read : (c : goal.After-weight_fits) → clause_in c.args.bytes.now (c.args.p.at + 1) ≡ Some (body c)
+read c = sym c.read_clause.ensures ∙ c.in-Some.is
 
-plain_known : (c : goal.After-weight_fits) → ltb (plain c) (2 ^ c.args.p.variables) ≡ true
+plain_known : (c : goal.After-weight_fits) → ltb ((body c).plain) (2 ^ c.args.p.variables) ≡ true
 plain_known c = sym c.is_term.ensures ∙ c.if-not-is_term.false
 
-negated_known : (c : goal.After-weight_fits) → ltb (negated c) (2 ^ c.args.p.variables) ≡ true
+negated_known : (c : goal.After-weight_fits) → ltb ((body c).negated) (2 ^ c.args.p.variables) ≡ true
 negated_known c = sym c.is_term-2.ensures ∙ c.if-not-is_term-2.false
 
-exact : (c : goal.After-weight_fits) → to_z w64 (of_z w64 (weight c)) ≡ weight c
-exact c = to_z-of_z {w = w64} {z = weight c} (record { sfits = search rules })
+exact : (c : goal.After-weight_fits) → to_z w64 (of_z w64 ((body c).weight)) ≡ (body c).weight
+exact c = to_z-of_z {w = w64} {z = (body c).weight} (record { sfits = search rules })
 
-fits : (c : goal.After-weight_fits) → c.weight_fits.result ≡ weight_fits (weight c)
+fits : (c : goal.After-weight_fits) → c.weight_fits.result ≡ weight_fits ((body c).weight)
 fits c = rw (exact c) at c.weight_fits.ensures
 
 pub returns-then-not-p-clause-brings : goal.returns-then-not-p-clause-brings
@@ -82,60 +76,60 @@ returns-in_default-clause-fits c = (refuse (goal.at.returns-in_default-clause-fi
 
 pub returns-then-not-is_term-clause-brings : goal.returns-then-not-is_term-clause-brings
 returns-then-not-is_term-clause-brings c = (refuse (goal.at.returns-then-not-is_term-clause-brings c).Start R.UnknownVariable c.no_polynomial-then-not-is_term.result (ap (λ (w : Weighted). w.objection) c.no_polynomial-then-not-is_term.ensures)
-    (λ us hs t. plain_unknown c.args.bytes.now (progress_in c.args.p us hs t) (not-false _ c.if-not-p.false) _ _ _
-    (sym c.read_clause.ensures ∙ c.in-Whole.is)
+    (λ us hs t. plain_unknown c.args.bytes.now (progress_in c.args.p us hs t) (not-false _ c.if-not-p.false) _
+    (sym c.read_clause.ensures ∙ c.in-Some.is)
     (sym c.is_term.ensures ∙ c.if-not-is_term.true))).0
 
 pub returns-then-not-is_term-clause-fits : goal.returns-then-not-is_term-clause-fits
 returns-then-not-is_term-clause-fits c = (refuse (goal.at.returns-then-not-is_term-clause-fits c).Start R.UnknownVariable c.no_polynomial-then-not-is_term.result (ap (λ (w : Weighted). w.objection) c.no_polynomial-then-not-is_term.ensures)
-    (λ us hs t. plain_unknown c.args.bytes.now (progress_in c.args.p us hs t) (not-false _ c.if-not-p.false) _ _ _
-    (sym c.read_clause.ensures ∙ c.in-Whole.is)
+    (λ us hs t. plain_unknown c.args.bytes.now (progress_in c.args.p us hs t) (not-false _ c.if-not-p.false) _
+    (sym c.read_clause.ensures ∙ c.in-Some.is)
     (sym c.is_term.ensures ∙ c.if-not-is_term.true))).1
 
 pub returns-then-not-is_term-2-clause-brings : goal.returns-then-not-is_term-2-clause-brings
 returns-then-not-is_term-2-clause-brings c = (refuse (goal.at.returns-then-not-is_term-2-clause-brings c).Start R.UnknownVariable c.no_polynomial-then-not-is_term-2.result (ap (λ (w : Weighted). w.objection) c.no_polynomial-then-not-is_term-2.ensures)
-    (λ us hs t. negated_unknown c.args.bytes.now (progress_in c.args.p us hs t) (not-false _ c.if-not-p.false) _ _ _
-    (sym c.read_clause.ensures ∙ c.in-Whole.is)
+    (λ us hs t. negated_unknown c.args.bytes.now (progress_in c.args.p us hs t) (not-false _ c.if-not-p.false) _
+    (sym c.read_clause.ensures ∙ c.in-Some.is)
     (sym c.is_term.ensures ∙ c.if-not-is_term.false)
     (sym c.is_term-2.ensures ∙ c.if-not-is_term-2.true))).0
 
 pub returns-then-not-is_term-2-clause-fits : goal.returns-then-not-is_term-2-clause-fits
 returns-then-not-is_term-2-clause-fits c = (refuse (goal.at.returns-then-not-is_term-2-clause-fits c).Start R.UnknownVariable c.no_polynomial-then-not-is_term-2.result (ap (λ (w : Weighted). w.objection) c.no_polynomial-then-not-is_term-2.ensures)
-    (λ us hs t. negated_unknown c.args.bytes.now (progress_in c.args.p us hs t) (not-false _ c.if-not-p.false) _ _ _
-    (sym c.read_clause.ensures ∙ c.in-Whole.is)
+    (λ us hs t. negated_unknown c.args.bytes.now (progress_in c.args.p us hs t) (not-false _ c.if-not-p.false) _
+    (sym c.read_clause.ensures ∙ c.in-Some.is)
     (sym c.is_term.ensures ∙ c.if-not-is_term.false)
     (sym c.is_term-2.ensures ∙ c.if-not-is_term-2.true))).1
 
 pub returns-then-not-weight_fits-clause-brings : goal.returns-then-not-weight_fits-clause-brings
 returns-then-not-weight_fits-clause-brings c = (refuse (goal.at.returns-then-not-weight_fits-clause-brings c).Start R.OutOfRange c.no_polynomial-then-not-weight_fits.result (ap (λ (w : Weighted). w.objection) c.no_polynomial-then-not-weight_fits.ensures)
-    (λ us hs t. clause_out c.args.bytes.now (progress_in c.args.p us hs t) (begun (goal.at.returns-then-not-weight_fits-clause-brings c).After-weight_fits) (plain (goal.at.returns-then-not-weight_fits-clause-brings c).After-weight_fits) (negated (goal.at.returns-then-not-weight_fits-clause-brings c).After-weight_fits) (weight (goal.at.returns-then-not-weight_fits-clause-brings c).After-weight_fits) (read (goal.at.returns-then-not-weight_fits-clause-brings c).After-weight_fits) (plain_known (goal.at.returns-then-not-weight_fits-clause-brings c).After-weight_fits) (negated_known (goal.at.returns-then-not-weight_fits-clause-brings c).After-weight_fits)
+    (λ us hs t. clause_out c.args.bytes.now (progress_in c.args.p us hs t) (begun (goal.at.returns-then-not-weight_fits-clause-brings c).After-weight_fits) (body (goal.at.returns-then-not-weight_fits-clause-brings c).After-weight_fits) (read (goal.at.returns-then-not-weight_fits-clause-brings c).After-weight_fits) (plain_known (goal.at.returns-then-not-weight_fits-clause-brings c).After-weight_fits) (negated_known (goal.at.returns-then-not-weight_fits-clause-brings c).After-weight_fits)
     (sym (fits (goal.at.returns-then-not-weight_fits-clause-brings c).After-weight_fits) ∙ c.if-not-weight_fits.true))).0
 
 pub returns-then-not-weight_fits-clause-fits : goal.returns-then-not-weight_fits-clause-fits
 returns-then-not-weight_fits-clause-fits c = (refuse (goal.at.returns-then-not-weight_fits-clause-fits c).Start R.OutOfRange c.no_polynomial-then-not-weight_fits.result (ap (λ (w : Weighted). w.objection) c.no_polynomial-then-not-weight_fits.ensures)
-    (λ us hs t. clause_out c.args.bytes.now (progress_in c.args.p us hs t) (begun (goal.at.returns-then-not-weight_fits-clause-fits c).After-weight_fits) (plain (goal.at.returns-then-not-weight_fits-clause-fits c).After-weight_fits) (negated (goal.at.returns-then-not-weight_fits-clause-fits c).After-weight_fits) (weight (goal.at.returns-then-not-weight_fits-clause-fits c).After-weight_fits) (read (goal.at.returns-then-not-weight_fits-clause-fits c).After-weight_fits) (plain_known (goal.at.returns-then-not-weight_fits-clause-fits c).After-weight_fits) (negated_known (goal.at.returns-then-not-weight_fits-clause-fits c).After-weight_fits)
+    (λ us hs t. clause_out c.args.bytes.now (progress_in c.args.p us hs t) (begun (goal.at.returns-then-not-weight_fits-clause-fits c).After-weight_fits) (body (goal.at.returns-then-not-weight_fits-clause-fits c).After-weight_fits) (read (goal.at.returns-then-not-weight_fits-clause-fits c).After-weight_fits) (plain_known (goal.at.returns-then-not-weight_fits-clause-fits c).After-weight_fits) (negated_known (goal.at.returns-then-not-weight_fits-clause-fits c).After-weight_fits)
     (sym (fits (goal.at.returns-then-not-weight_fits-clause-fits c).After-weight_fits) ∙ c.if-not-weight_fits.true))).1
 
 pub returns-then-clause-gt64-clause-brings : goal.returns-then-clause-gt64-clause-brings
 returns-then-clause-gt64-clause-brings c =
     let r = c.clause-clause in
-    let n : r.result.length ≡ length (clause_of (plain (goal.at.returns-then-clause-gt64-clause-brings c).After-weight_fits) (negated (goal.at.returns-then-clause-gt64-clause-brings c).After-weight_fits)) = ap (λ (o : Measured). o.length) r.ensures in
+    let n : r.result.length ≡ length (clause_of (body (goal.at.returns-then-clause-gt64-clause-brings c).After-weight_fits).plain (body (goal.at.returns-then-clause-gt64-clause-brings c).After-weight_fits).negated) = ap (λ (o : Measured). o.length) r.ensures in
     (refuse (goal.at.returns-then-clause-gt64-clause-brings c).Start (R.TooManyTerms r.result.length) c.no_polynomial-then-clause-gt64.result (ap (λ (w : Weighted). w.objection) c.no_polynomial-then-clause-gt64.ensures)
-    (λ us hs t. clause_long c.args.bytes.now (progress_in c.args.p us hs t) (begun (goal.at.returns-then-clause-gt64-clause-brings c).After-weight_fits) (plain (goal.at.returns-then-clause-gt64-clause-brings c).After-weight_fits) (negated (goal.at.returns-then-clause-gt64-clause-brings c).After-weight_fits) (weight (goal.at.returns-then-clause-gt64-clause-brings c).After-weight_fits) (read (goal.at.returns-then-clause-gt64-clause-brings c).After-weight_fits) (plain_known (goal.at.returns-then-clause-gt64-clause-brings c).After-weight_fits) (negated_known (goal.at.returns-then-clause-gt64-clause-brings c).After-weight_fits)
+    (λ us hs t. clause_long c.args.bytes.now (progress_in c.args.p us hs t) (begun (goal.at.returns-then-clause-gt64-clause-brings c).After-weight_fits) (body (goal.at.returns-then-clause-gt64-clause-brings c).After-weight_fits) (read (goal.at.returns-then-clause-gt64-clause-brings c).After-weight_fits) (plain_known (goal.at.returns-then-clause-gt64-clause-brings c).After-weight_fits) (negated_known (goal.at.returns-then-clause-gt64-clause-brings c).After-weight_fits)
     (sym (fits (goal.at.returns-then-clause-gt64-clause-brings c).After-weight_fits) ∙ c.if-not-weight_fits.false) r.result.length n c.if-clause-gt64.true)).0
 
 pub returns-then-clause-gt64-clause-fits : goal.returns-then-clause-gt64-clause-fits
 returns-then-clause-gt64-clause-fits c =
     let r = c.clause-clause in
-    let n : r.result.length ≡ length (clause_of (plain (goal.at.returns-then-clause-gt64-clause-fits c).After-weight_fits) (negated (goal.at.returns-then-clause-gt64-clause-fits c).After-weight_fits)) = ap (λ (o : Measured). o.length) r.ensures in
+    let n : r.result.length ≡ length (clause_of (body (goal.at.returns-then-clause-gt64-clause-fits c).After-weight_fits).plain (body (goal.at.returns-then-clause-gt64-clause-fits c).After-weight_fits).negated) = ap (λ (o : Measured). o.length) r.ensures in
     (refuse (goal.at.returns-then-clause-gt64-clause-fits c).Start (R.TooManyTerms r.result.length) c.no_polynomial-then-clause-gt64.result (ap (λ (w : Weighted). w.objection) c.no_polynomial-then-clause-gt64.ensures)
-    (λ us hs t. clause_long c.args.bytes.now (progress_in c.args.p us hs t) (begun (goal.at.returns-then-clause-gt64-clause-fits c).After-weight_fits) (plain (goal.at.returns-then-clause-gt64-clause-fits c).After-weight_fits) (negated (goal.at.returns-then-clause-gt64-clause-fits c).After-weight_fits) (weight (goal.at.returns-then-clause-gt64-clause-fits c).After-weight_fits) (read (goal.at.returns-then-clause-gt64-clause-fits c).After-weight_fits) (plain_known (goal.at.returns-then-clause-gt64-clause-fits c).After-weight_fits) (negated_known (goal.at.returns-then-clause-gt64-clause-fits c).After-weight_fits)
+    (λ us hs t. clause_long c.args.bytes.now (progress_in c.args.p us hs t) (begun (goal.at.returns-then-clause-gt64-clause-fits c).After-weight_fits) (body (goal.at.returns-then-clause-gt64-clause-fits c).After-weight_fits) (read (goal.at.returns-then-clause-gt64-clause-fits c).After-weight_fits) (plain_known (goal.at.returns-then-clause-gt64-clause-fits c).After-weight_fits) (negated_known (goal.at.returns-then-clause-gt64-clause-fits c).After-weight_fits)
     (sym (fits (goal.at.returns-then-clause-gt64-clause-fits c).After-weight_fits) ∙ c.if-not-weight_fits.false) r.result.length n c.if-clause-gt64.true)).1
 
 pub returns : goal.returns
 returns c =
     let r = c.clause-clause in
-    let h : weight_fits (weight (goal.at.returns c).After-weight_fits) ≡ true = sym (fits (goal.at.returns c).After-weight_fits) ∙ c.if-not-weight_fits.false in
-    let m : (terms_of r.result.polynomial ≡ clause_of (plain (goal.at.returns c).After-weight_fits) (negated (goal.at.returns c).After-weight_fits)) × (length (clause_of (plain (goal.at.returns c).After-weight_fits) (negated (goal.at.returns c).After-weight_fits)) ≤ 64) =
-    measured_terms (clause_of (plain (goal.at.returns c).After-weight_fits) (negated (goal.at.returns c).After-weight_fits)) r.result r.ensures c.if-clause-gt64.false in
-    rw (exact (goal.at.returns c).After-weight_fits, m.0) (record { brings = λ us hs t. sym (clause_in_lem c.args.bytes.now (progress_in c.args.p us hs t) (begun (goal.at.returns c).After-weight_fits) (plain (goal.at.returns c).After-weight_fits) (negated (goal.at.returns c).After-weight_fits) (weight (goal.at.returns c).After-weight_fits) (read (goal.at.returns c).After-weight_fits) (plain_known (goal.at.returns c).After-weight_fits) (negated_known (goal.at.returns c).After-weight_fits) h m.1); fits = λ n. of_true h })
+    let h : weight_fits (body (goal.at.returns c).After-weight_fits).weight ≡ true = sym (fits (goal.at.returns c).After-weight_fits) ∙ c.if-not-weight_fits.false in
+    let m : (terms_of r.result.polynomial ≡ clause_of (body (goal.at.returns c).After-weight_fits).plain (body (goal.at.returns c).After-weight_fits).negated) × (length (clause_of (body (goal.at.returns c).After-weight_fits).plain (body (goal.at.returns c).After-weight_fits).negated) ≤ 64) =
+    measured_terms (clause_of (body (goal.at.returns c).After-weight_fits).plain (body (goal.at.returns c).After-weight_fits).negated) r.result r.ensures c.if-clause-gt64.false in
+    rw (exact (goal.at.returns c).After-weight_fits, m.0) (record { brings = λ us hs t. sym (clause_in_lem c.args.bytes.now (progress_in c.args.p us hs t) (begun (goal.at.returns c).After-weight_fits) (body (goal.at.returns c).After-weight_fits) (read (goal.at.returns c).After-weight_fits) (plain_known (goal.at.returns c).After-weight_fits) (negated_known (goal.at.returns c).After-weight_fits) h m.1); fits = λ n. of_true h })

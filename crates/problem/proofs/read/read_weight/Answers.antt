@@ -11,7 +11,7 @@ use borrow.Author.Rules.{rules}
 use borrow.Author.Tests.{not-true, not-false}
 use Rattle.run.specs.BooleanLaws.{of_true}
 use Rattle.record.specs.Record.{amount_in}
-use Rattle.record.specs.declared.Amount.TheVariants.{Whole}
+use Rattle.std.specs.declared.option.Option.TheVariants.{Some}
 use Rattle.problem.specs.Problem.{weight_fits, on_weight}
 use Rattle.problem.specs.Held.{progress_in}
 use Rattle.problem.specs.declared.read.Weight.{Weight}
@@ -51,13 +51,13 @@ begun : (c : goal.After-weight_fits) → c.args.p.started ≡ true
 begun c = not-false _ c.if-not-p.false
 
 abbrev weight : goal.After-weight_fits → ℤ
-weight c = c.in-Whole.weight
+weight c = c.in-Some.weight
 
 exact : (c : goal.After-weight_fits) → to_z w64 (of_z w64 (weight c)) ≡ weight c
 exact c = to_z-of_z {w = w64} {z = weight c} (record { sfits = search rules })
 
-read : (c : goal.After-weight_fits) → amount_in c.args.bytes.now (c.args.p.at + 1) ≡ Whole (weight c)
-read c = sym c.read_amount.ensures ∙ c.in-Whole.is
+read : (c : goal.After-weight_fits) → amount_in c.args.bytes.now (c.args.p.at + 1) ≡ Some (weight c)
+read c = sym c.read_amount.ensures ∙ c.in-Some.is
 
 fits : (c : goal.After-weight_fits) → c.weight_fits.result ≡ weight_fits (weight c)
 fits c = rw (exact c) at c.weight_fits.ensures
