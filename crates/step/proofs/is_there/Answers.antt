@@ -6,7 +6,7 @@ use mir.Facts.{to_z-of_z}
 use Rattle.std.proofs.Common.{rules}
 use Rattle.calculus.specs.Calculus.{premises, there}
 use Rattle.calculus.specs.declared.Rule.{Rule}
-use Rattle.step.proofs.Amounts.{doubled_fits}
+use Rattle.step.proofs.Amounts.{doubled_is}
 use Rattle.step.proofs.Asked.{enough, asked_twice, asked_each}
 use Rattle.step.proofs.is_there.Goals as goal
 use Rattle.step.proofs.is_there.Goals.{After-is_held-in-Sum-2, Start}
@@ -18,7 +18,8 @@ pub returns-in-Sum : goal.returns-in-Sum
 returns-in-Sum c =
     let a = c.args in
     let h : a.f.now ≡ a.g.now = search rules in
-    let e : c.is_held.result ≡ enough a.table.now a.f.now (a.amount +ℤ a.amount) = rw (to_z-of_z c.ranges.amount, to_z-of_z (doubled_fits a.amount c.requires)) at c.is_held.ensures in
+    let e : c.is_held.result ≡ enough a.table.now a.f.now (a.amount +ℤ a.amount) =
+    c.is_held.ensures ∙ ap (enough a.table.now a.f.now) (doubled_is a.amount c.requires _ (to_z-of_z c.ranges.amount)) in
     e ∙ asked_twice a.table.now a.f.now a.g.now a.amount h ∙ by_rule (goal.at.returns-in-Sum c).Start c.in-Sum.is
 
 -- of two polynomials that differ, each is asked for once
