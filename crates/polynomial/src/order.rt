@@ -6,10 +6,6 @@ ghost use Rattle.polynomial.specs.Polynomial.{order_of};
 
 use std::cmp::Ordering;
 
-{
-    a.min(b)
-}
-
 // Where one run of terms stands beside another, which is less if it stands earlier: at the first place where they differ the one with
 // the earlier term is first, and of two that do not differ the shorter.
 #[tactic(auto, using(crate::proofs::Uses::uses_order_compare))]
