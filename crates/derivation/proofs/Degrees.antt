@@ -1,11 +1,11 @@
 -- The largest degree so far: the first term of the first line tells that of lines in order; and with those that are still to be met the largest so far gives the whole.
-use mathlib.Core.Path.{◌≡◌, refl, sym, ap, subst, ◌∙◌}
+use mathlib.Core.Path.{◌≡◌, refl, sym, ap, ◌∙◌}
 use mathlib.Core.List.{List, [], ◌∷◌}
-use Prim.Native.Nat.{ℕ, zero, suc, ◌-◌, ◌/◌, ◌^◌, ◌≤◌, ◌<◌, max}
+use Prim.Native.Nat.{ℕ, suc, ◌-◌, ◌/◌, ◌^◌, ◌≤◌, ◌<◌, max}
 use native.Mathlib.Omega.{arith}
 use lib.Dec.{T}
 use lib.IntN.{ℤ}
-use lib.ListN.{length, get_or, drop}
+use lib.ListN.{length}
 use Rattle.refusal.specs.Outcome.{accepted}
 use Rattle.term.specs.OrderLaws.{key_degree}
 use Rattle.polynomial.specs.Polynomial.{IsOrdered, RunBelow}

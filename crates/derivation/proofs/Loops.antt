@@ -1,19 +1,22 @@
 -- The walk over the records as code goes it: what holds before each turn, and what is told where it ends.
 use mathlib.Core.Path.{◌≡◌, refl, sym, ap, ap₂, subst, ◌∙◌}
-use mathlib.Core.Bool.{Bool, true, false}
 use mathlib.Core.List.{List}
-use Prim.Native.Nat.{ℕ, suc, ◌+◌, ◌-◌, ◌≤◌, ◌<◌, max}
+use Prim.Native.Nat.{ℕ, suc, ◌+◌, ◌≤◌, ◌<◌, max}
 use native.Mathlib.Numerals.{add-one}
 use native.Mathlib.Omega.{arith}
 use lib.Dec.{T}
 use lib.IntN.{ℤ}
 use lib.ListN.{length}
+use Rattle.std.specs.declared.option.Option.{Option}
 use Rattle.std.specs.declared.option.Option.TheVariants.{Some, None}
+use Rattle.std.specs.Option.{option_map, ok_or}
+use Rattle.refusal.specs.declared.Reason.TheVariants.{Unfinished}
+use Rattle.derivation.specs.declared.Confirmed.{Confirmed}
 use Rattle.std.specs.declared.result.Result.{Result}
 use Rattle.std.specs.declared.result.Result.TheVariants.{Ok, Err}
-use Rattle.refusal.specs.Outcome.{accepted, nothing, refused_for, Reached, after, answered, refused_at}
+use Rattle.refusal.specs.Outcome.{accepted, nothing, refused_for, Reached, after, refused_at}
 use Rattle.refusal.specs.OutcomeLaws.{after-accepted}
-use Rattle.refusal.specs.Refusal.{numbered, refusal_of}
+use Rattle.refusal.specs.Refusal.{refusal_of}
 use Rattle.refusal.specs.declared.Reason.{Reason}
 use Rattle.refusal.specs.declared.Refused.{Refused}
 use Rattle.std.specs.Result.{MatchResult, IsErrAnd}
@@ -24,8 +27,8 @@ use Rattle.hard.specs.Hard.{is_hard_list, hard_at}
 use Rattle.hard.specs.HardLaws.{hard_polynomial}
 use Rattle.walk.specs.Walk.{Progress, past, over}
 use Rattle.walk.specs.Held.{progress_at, Does}
-use Rattle.walk.proofs.Leads.{Leads, begins, ends, inside, next_leads, unmoved, ends_refused}
-use Rattle.derivation.specs.Derivation.{State, on_record, checking, degree_in, derivation_degree, Confirmation}
+use Rattle.walk.proofs.Leads.{Leads, begins, ends, inside, next_leads, ends_refused}
+use Rattle.derivation.specs.Derivation.{State, on_record, checking, degree_in, derivation_degree, Confirmation, told_of_check}
 use Rattle.derivation.specs.Held.{Begun, state_in, opening, IsUsable}
 use Rattle.derivation.proofs.DerivationLaws.{IsSound, IsSound-fresh, IsSound-record, walked, made_by}
 use Rattle.derivation.proofs.DegreeLaws.{lines_run}
@@ -121,9 +124,10 @@ module _ (n : ℕ) (H : List (List ℕ)) (s : List ℕ) (D : ℕ) (x : Reached (
     told_over : made_by n b.degree (over (checking n H) here) ≡ made_by n D x
     told_over = ap₂ (made_by n) (meets_end n H s D b.degree here inv.meets h) (ends (checking n H) s x here h inv.leads)
 
-    pub unfinished : b.claim ≡ None → ◌≡◌ {A = Made Confirmation} (record { variables = n; lines = L; told = refused_at (k + 1) (numbered 15) }) (made_by n D x)
-    unfinished e = rw (add-one k) (rw e at told_over)
-
-    pub confirms : (w : ℤ) → b.claim ≡ Some w
-        → ◌≡◌ {A = Made Confirmation} (record { variables = n; lines = L; told = answered (record { claim = w; degree = b.degree }) }) (made_by n D x)
-    confirms w e = rw e at told_over
+    pub ends_there : (o : Option Confirmed) → o ≡ option_map (λ w. record { claim = w; degree = b.degree }) b.claim → (e : Refused) → e.record ≡ k + 1 → e.reason ≡ Unfinished
+        → ◌≡◌ {A = Made Confirmation} (record { variables = n; lines = L; told = told_of_check (ok_or o e) }) (made_by n D x)
+    ends_there o i e j y = go b.claim refl
+      where
+        go : (w : Option ℤ) → b.claim ≡ w → ◌≡◌ {A = Made Confirmation} (record { variables = n; lines = L; told = told_of_check (ok_or o e) }) (made_by n D x)
+        go None h = rw (i, h, j, y, add-one k) (rw h at told_over)
+        go (Some w) h = rw (i, h) (rw h at told_over)

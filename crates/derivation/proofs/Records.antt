@@ -12,7 +12,7 @@ use Rattle.std.specs.declared.option.Option.{Option}
 use Rattle.std.specs.declared.option.Option.TheVariants.{Some, None}
 use Rattle.std.specs.Prelude.{◌==◌, option_map, is_some, unwrap_or}
 use Rattle.refusal.specs.Refusal.{refusal_of}
-use Rattle.refusal.specs.Outcome.{Outcome, accepted, refused, nothing, refused_for, Reached, after, stop_in}
+use Rattle.refusal.specs.Outcome.{Reached, after, stop_in}
 use Rattle.refusal.specs.OutcomeLaws.{after-accepted, after-refused}
 use Rattle.refusal.specs.declared.Reason.{Reason}
 use Rattle.run.specs.BooleanLaws.{of_true}
@@ -27,16 +27,15 @@ use Rattle.std.specs.declared.result.Result.TheVariants.{Ok, Err}
 use borrow.Author.Tests.{ne_eqb}
 use Rattle.walk.specs.Held.{progress_at, Does}
 use Rattle.calculus.specs.declared.Rule.{Rule}
-use Rattle.calculus.specs.declared.Rule.TheVariants.{Hard}
 use Rattle.record.specs.Record.{whole, number_at, signed_at, byte_in, amount_in}
 use Rattle.record.proofs.Bodies.{byte_cut, byte_whole, amount_cut, amount_whole}
-use Rattle.walk.specs.Walk.{Progress, past}
+use Rattle.walk.specs.Walk.{Progress}
 use Rattle.walk.specs.Work.{term_added}
 use Rattle.walk.specs.WalkLaws.{IfAccepted}
 use Rattle.walk.specs.WorkLaws.{term_ind}
 use Rattle.polynomial.specs.PolynomialLaws.{sum_ordered}
 use Rattle.refusal.specs.declared.Reason.TheVariants.{CutShort, Misplaced, OutOfRange, NegativeLine, ClaimTooHigh}
-use Rattle.derivation.specs.Derivation.{State, going, having, claim_fits, on_term, on_step, on_hard, on_claim}
+use Rattle.derivation.specs.Derivation.{State, going, claim_fits, on_term, on_step, on_hard, on_claim}
 use Rattle.derivation.specs.Held.{Begun, state_in, is_going, is_free, is_idle, hard_ask, step_asked, IsUsable}
 
 -- ---- S, P, E: what their bodies ask for
@@ -81,19 +80,22 @@ module _ (H : List (List ℕ)) (s : List ℕ) (at : ℕ) (x y : State) (o : Resu
       d i ∙ ap (λ (b : Option (Rule × ℤ)). after (progress_at at i x) (step_asked H b 10 (progress_at at i x))) e
       ∙ ap (after (progress_at at i x)) (sym (hard_asks H s (progress_at at i x)))
 
+-- ---- the lines of a step that is taken
+pub step_lines : (H : List (List ℕ)) (r : Rule) (d : Mode) (f g : List ℕ) (w : ℤ) (L M : List Line) (o : Result (Unit {0}) Reason) (u : Unit {0})
+    → ◌≡◌ {A = Reached (List Line)} (record { reached = M; stop = stop_in o }) (after L (step H r d f g w L)) → o ≡ Ok u
+    → RunBelow 32 f → RunBelow 32 g → Every (RunBelow 32) L → ((i : ℕ) → IsBelow 32 (hard_at H i)) → Every (RunBelow 32) M
+step_lines H r d f g w L M o u e k a b l h = step_run H r d f g w 32 L M h a b l (after-accepted L M (step H r d f g w L) (rw k at e))
+
 -- ---- what is held, v, is what the fields say, b
 module _ (v b : Begun) (same : v ≡ b) where
-  -- f, where it is set
-  pub first_is : (f : List ℕ) → v.first ≡ Some f → unwrap_or b.first ZERO ≡ f
-  first_is f e = rw same at (ap (λ (o : Option (List ℕ)). unwrap_or o ZERO) e)
+  -- what a step asks of f and of the work polynomial
+  pub first_below : (H : List (List ℕ)) (L : List Line) (f : List ℕ) → v.first ≡ Some f → IsUsable H (state_in b L) → IsBelow 32 f
+  first_below H L f e a =
+      let is : unwrap_or b.first ZERO ≡ f = rw same at (ap (λ (o : Option (List ℕ)). unwrap_or o ZERO) e) in
+      rw is at a.1
 
-  -- the lines of a step that is taken
-  pub lines_taken : (H : List (List ℕ)) (r : Rule) (d : Mode) (f : List ℕ) (w : ℤ) (L M : List Line) (o : Result (Unit {0}) Reason) (u : Unit {0}) → o ≡ Ok u
-      → ◌≡◌ {A = Reached (List Line)} (record { reached = M; stop = stop_in o }) (after L (step H r d f v.work w L))
-      → v.first ≡ Some f → IsOrdered f → IsOrdered v.work → IsUsable H (state_in b L) → Every (RunBelow 32) M
-  lines_taken H r d f w L M o u k e i p q a =
-      let below : IsBelow 32 v.work = rw same a.2 in
-      step_run H r d f v.work w 32 L M a.4 (rw (first_is f i) at a.1, p) (below, q) a.3 (after-accepted L M (step H r d f v.work w L) (rw k at e))
+  pub work_below : (H : List (List ℕ)) (L : List Line) → IsUsable H (state_in b L) → IsBelow 32 v.work
+  work_below H L a = rw same a.2
 
   -- a term that is added
   module _ (n : ℕ) (s : List ℕ) (at : ℕ) (g : List ℕ) (o : Result (Unit {0}) Reason)

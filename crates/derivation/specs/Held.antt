@@ -67,8 +67,8 @@ abbrev pub opening : List Line → Begun
 opening L = record { mode = None; first = None; work = ZERO; claim = None; degree = degree_in L }
 
 -- a polynomial of the code is one: at most 64 terms, in order
-abbrev pub Fits : Polynomial → Type 0
-Fits f = (f.count ≤ 64) × IsOrdered (terms_of f)
+abbrev pub IsHeld : Polynomial → Type 0
+IsHeld f = (f.count ≤ 64) × IsOrdered (terms_of f)
 
 -- ---- steps
 -- what a step asks of the lines, f, the work polynomial and the hard list

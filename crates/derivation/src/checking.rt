@@ -8,6 +8,9 @@ ghost use Rattle.walk.specs.Held.{Does};
 ghost use Rattle.derivation.specs.Derivation.{claim_fits, on_mode, on_term, on_choice, on_step, on_hard, on_claim, on_record, degree_in, check_derivation, told_of_check};
 ghost use Rattle.derivation.specs.Held.{state_in, is_going, is_free, is_idle, opening, hard_ask, step_asked, IsUsable};
 
+use crate::Confirmed;
+use crate::degree::largest_degree;
+use crate::kind::{Kind, kind_of};
 use calculus::{Mode, Rule};
 use hard::HardList;
 use polynomial::Polynomial;
@@ -17,10 +20,6 @@ use std::marker::Model;
 use step::{Move, step};
 use table::Lines;
 use walk::add_term;
-
-use crate::Confirmed;
-use crate::degree::largest_degree;
-use crate::kind::{Kind, kind_of};
 
 // The mode, once N or Z has come; f, if it is set; the work polynomial; the claim, once B has come; and the largest degree met so
 // far.
@@ -36,13 +35,13 @@ pub struct Checking {
 impl Model for Checking {
     ghost use Rattle.std.specs.Prelude.{option_map, IfSome};
     ghost use Rattle.polynomial.specs.Polynomial.{terms_of};
-    ghost use Rattle.derivation.specs.Held.{Begun, Fits};
+    ghost use Rattle.derivation.specs.Held.{Begun, IsHeld};
 
     ghost Value = { Begun };
 
     ghost view = { λ c. record { mode = c.mode; first = option_map terms_of c.first; work = terms_of c.work; claim = c.claim; degree = c.degree } };
 
-    ghost invariant = { λ c. Fits c.work × IfSome c.first Fits };
+    ghost invariant = { λ c. IsHeld c.work × IfSome c.first IsHeld };
 }
 
 // Whether a claim is from 0 to 10^12.
@@ -227,6 +226,17 @@ impl Checking {
         }
     }
 
+    // What is confirmed, once B has come.
+    fn confirmed(&self) -> Option<Confirmed>
+        ensures { let b = self.now in result ≡ option_map (λ w. record { claim = w; degree = b.degree }) b.claim }
+    {
+        let claim = self.claim?;
+        Some(Confirmed {
+            claim,
+            degree: self.degree,
+        })
+    }
+
     // Reads the records one after the other, up to the first that is refused. Where the bytes end B must have come.
     pub fn read(
         &mut self,
@@ -248,17 +258,11 @@ impl Checking {
                 .on_record(bytes, at, variables, hard, lines)
                 .map_err(|reason| Refused { record, reason })?;
             at += size;
-            records = record;
+            records += 1;
         }
-        let Some(claim) = self.claim else {
-            return Err(Refused {
-                record: records + 1,
-                reason: Reason::Unfinished,
-            });
-        };
-        Ok(Confirmed {
-            claim,
-            degree: self.degree,
+        self.confirmed().ok_or(Refused {
+            record: records + 1,
+            reason: Reason::Unfinished,
         })
     }
 }

@@ -1,6 +1,6 @@
 -- `on_record` meets its contract: each kind is the record of its letter, and any other is misplaced.
 use Rattle.std.proofs.Common.{◌≡◌, refl, sym, ap, ◌∙◌, get_or}
-use Rattle.std.specs.Prelude.{Option, Some, None, Err}
+use Rattle.std.specs.Prelude.{Some, None, Err}
 use Rattle.refusal.specs.declared.Reason.TheVariants.{Misplaced}
 use Rattle.derivation.specs.Held.{kind_of, state_in}
 use Rattle.derivation.specs.declared.kind.Kind.{Kind}

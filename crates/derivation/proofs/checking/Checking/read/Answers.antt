@@ -1,12 +1,8 @@
 -- `read` meets its contract.
-use Rattle.std.proofs.Common.{◌≡◌, sym, ap, ◌∙◌, rules, arith, ℕ, ◌<◌, ◌≤◌, ◌+◌, length}
-use Rattle.std.specs.Prelude.{Ok}
+use Rattle.std.proofs.Common.{◌≡◌, refl, sym, ◌∙◌, rules, arith, ◌<◌, ◌≤◌, ◌+◌, length}
 use Rattle.std.proofs.lemmas.Result.{err_from_is_err_and}
-use mir.Syntax.{w64}
-use mir.Facts.{to_z-of_z}
-use Rattle.derivation.specs.Held.{Begun}
 use Rattle.derivation.proofs.DerivationLaws.{check_is}
-use Rattle.derivation.proofs.Loops.{starts, from_ok, from_err, record_fits, goes_on, refused_there, unfinished, confirms}
+use Rattle.derivation.proofs.Loops.{starts, from_ok, from_err, record_fits, goes_on, refused_there, ends_there}
 use Rattle.derivation.proofs.checking.Checking.read.Goals as goal
 use Rattle.derivation.proofs.checking.Checking.read.Goals.{In_ok-size}
 
@@ -47,17 +43,9 @@ loop-at-preserved c =
     goes_on a.variables a.hard.now a.bytes.now _ _ l.at l.records l.self l.lines l.invariant c.loop-at-test.true c.on_record.result c.on_record.new.self c.on_record.new.lines
     c.on_record.ensures.does c.in_ok-size.size e c.requires.hard (rw e at c.on_record.ensures.degree)
 
-pub returns-in_default : goal.returns-in_default
-returns-in_default c =
-    let a = c.args in
-    let l = c.loop-at in
-    unfinished a.variables a.hard.now a.bytes.now _ _ l.at l.records l.self l.lines l.invariant c.loop-at-test.false (rw (← c.self.view_is) c.in_default.is)
-    ∙ sym (check_is a.bytes.now a.variables a.hard.now a.lines.now)
-
 pub returns : goal.returns
 returns c =
     let a = c.args in
     let l = c.loop-at in
-    rw (to_z-of_z {w = w64} {z = c.in-Some.claim} (record { sfits = search rules })) (rw (ap (λ (b : Begun). b.degree) c.self.view_is)
-    (confirms a.variables a.hard.now a.bytes.now _ _ l.at l.records l.self l.lines l.invariant c.loop-at-test.false c.in-Some.claim (rw (← c.self.view_is) c.in-Some.is)
-    ∙ sym (check_is a.bytes.now a.variables a.hard.now a.lines.now)))
+    rw c.ok_or.ensures.value (ends_there a.variables a.hard.now a.bytes.now _ _ l.at l.records l.self l.lines l.invariant c.loop-at-test.false _ c.confirmed.ensures _ refl refl
+    ∙ sym (check_is a.bytes.now a.variables a.hard.now a.lines.now))
