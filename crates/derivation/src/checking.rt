@@ -167,7 +167,8 @@ impl Checking {
         step(lines, hard, f, g, Move { rule, mode, amount })?;
         self.first = None;
         self.work.count = Polynomial::ZERO.count;
-        self.degree = self.degree.max(largest_degree(lines));
+        let degree = largest_degree(lines);
+        self.degree = self.degree.max(degree);
         Ok(size)
     }
 

@@ -7,8 +7,8 @@ use Rattle.derivation.specs.Held.{IsHeld}
 use Rattle.derivation.proofs.Records.{step_lines, first_below, work_below}
 use Rattle.derivation.proofs.checking.Checking.take.Goals as goal
 
-pub largest_degree-requires : goal.largest_degree-requires
-largest_degree-requires c =
+pub largest_degree-degree-requires : goal.largest_degree-degree-requires
+largest_degree-degree-requires c =
     let a = c.args in
     let i = c.in-Some-None-Some in
     let first = ap (λ (o : Option Polynomial). option_map terms_of o) i.is-2 in
