@@ -7,31 +7,29 @@ use native.Mathlib.Omega.{arith}
 use lib.ListN.{length, take}
 use Rattle.fnv.specs.Fnv.{basis, add_bytes}
 use Rattle.configuration.specs.Configuration.{Line}
-use Rattle.table.specs.Rows.{Table, lines_of, Fits}
-use Rattle.table.specs.RowsLaws.{length_lines}
 use Rattle.listing.specs.Listing.{text_of}
 use Rattle.listing.specs.Writing.{overwritten}
 use Rattle.listing.specs.Code.{code_of}
 use Rattle.listing.specs.CodeLaws.{codes_from, code_of_lines}
 use Rattle.listing.proofs.Writes.{written_front}
 
-pub all_left : (n : ℕ) (H : List (List ℕ)) {t : Table} (q : Fits 128 t) (last code : ℕ) → last ≡ length H + t.lines → code ≡ basis
-    → codes_from (suc last - 0) 0 code n H (lines_of t) ≡ code_of n H (lines_of t)
-all_left n H {t} q last code h e =
-    let l : suc last - 0 ≡ suc (length H + length (lines_of t)) = omega (arith, length_lines q) in
-    rw (l, e) (code_of_lines n H (lines_of t))
+module _ (last n : ℕ) (H : List (List ℕ)) (L : List Line) where
+  pub all_left : (code : ℕ) → last ≡ length H + length L → code ≡ basis → codes_from (suc last - 0) 0 code n H L ≡ code_of n H L
+  all_left code h e =
+      let l : suc last - 0 ≡ suc (length H + length L) = omega arith in
+      rw (l, e) (code_of_lines n H L)
 
--- the text of the next number is added from the front of the bytes that it was written to
-pub one_less : (last number code n : ℕ) (H : List (List ℕ)) (L : List Line) (area bytes : List ℕ) (size next : ℕ) → number ≤ last
-    → size ≡ length (text_of number n H L) → bytes ≡ overwritten area 0 (text_of number n H L) → next ≡ add_bytes code (take size bytes)
-    → codes_from (suc last - (number + 1)) (number + 1) next n H L ≡ codes_from (suc last - number) number code n H L
-unfolding codes_from
-one_less last number code n H L area bytes size next h s b e =
-    let text : List ℕ = text_of number n H L in
-    let k : suc last - number ≡ suc (suc last - (number + 1)) = omega arith in
-    let f : next ≡ add_bytes code text = e ∙ ap (add_bytes code) (ap₂ take s b ∙ written_front area text) in
-    rw (k, f, add-one)
+  -- the text of the next number is added from the front of the bytes that it was written to
+  pub one_less : (number code : ℕ) (area bytes : List ℕ) (size next : ℕ) → number ≤ last
+      → size ≡ length (text_of number n H L) → bytes ≡ overwritten area 0 (text_of number n H L) → next ≡ add_bytes code (take size bytes)
+      → codes_from (suc last - (number + 1)) (number + 1) next n H L ≡ codes_from (suc last - number) number code n H L
+  unfolding codes_from
+  one_less number code area bytes size next h s b e =
+      let text : List ℕ = text_of number n H L in
+      let k : suc last - number ≡ suc (suc last - (number + 1)) = omega arith in
+      let f : next ≡ add_bytes code text = e ∙ ap (add_bytes code) (ap₂ take s b ∙ written_front area text) in
+      rw (k, f, add-one)
 
-pub none_left : (last number code n : ℕ) (H : List (List ℕ)) (L : List Line) → last < number → codes_from (suc last - number) number code n H L ≡ code
-unfolding codes_from
-none_left last number code n H L h = let k : suc last - number ≡ 0 = omega arith in rw k
+  pub none_left : (number code : ℕ) → last < number → codes_from (suc last - number) number code n H L ≡ code
+  unfolding codes_from
+  none_left number code h = let k : suc last - number ≡ 0 = omega arith in rw k

@@ -1,4 +1,4 @@
--- The listing of a table, number by number: the texts that are left.
+-- The listing, number by number: the texts that are left.
 use mathlib.Core.Path.{◌≡◌, sym, ap, ◌∙◌}
 use mathlib.Core.List.{List, [], ◌++◌}
 use Prim.Native.Nat.{ℕ, suc, ◌+◌, ◌-◌, ◌≤◌, ◌<◌}
@@ -6,11 +6,8 @@ use native.Mathlib.Numerals.{add-one}
 use native.Mathlib.Omega.{arith}
 use lib.ListN.{length}
 use Rattle.configuration.specs.Configuration.{Line}
-use Rattle.hard.specs.HardLaws.{AllShort}
-use Rattle.table.specs.Rows.{Table, lines_of, Fits}
-use Rattle.table.specs.RowsLaws.{length_lines, lines_few, lines_short}
 use Rattle.listing.specs.Listing.{text_of, listing_of}
-use Rattle.listing.specs.ListingLaws.{texts_from, whole_listing, listing_short}
+use Rattle.listing.specs.ListingLaws.{texts_from, whole_listing}
 
 -- one text, where there are k + 1 in all, and none
 pub texts_step : (k i n : ℕ) (H : List (List ℕ)) (L : List Line) → i ≤ k
@@ -24,12 +21,8 @@ pub texts_over : (k i n : ℕ) (H : List (List ℕ)) (L : List Line) → k < i �
 unfolding texts_from
 texts_over k i n H L h = let e : suc k - i ≡ 0 = omega arith in rw e
 
-module _ (n : ℕ) (H : List (List ℕ)) {t : Table} (q : Fits 128 t) where
-  -- all of them are the listing, which is short
-  pub table_listing : (last : ℕ) → last ≡ length H + t.lines → listing_of n H (lines_of t) ≡ texts_from (suc last - 0) 0 n H (lines_of t)
-  table_listing last l =
-      let e : suc (length H + length (lines_of t)) ≡ suc last - 0 = omega (arith, length_lines q) in
-      sym (whole_listing n H (lines_of t)) ∙ ap (λ (k : ℕ). texts_from k 0 n H (lines_of t)) e
-
-  pub table_short : AllShort H → length H ≤ 16 → length (listing_of n H (lines_of t)) ≤ 1224960
-  table_short w h = listing_short n H (lines_of t) w h (lines_short q) (lines_few q)
+-- all of them
+pub all_texts : (k n : ℕ) (H : List (List ℕ)) (L : List Line) → k ≡ length H + length L → listing_of n H L ≡ texts_from (suc k - 0) 0 n H L
+all_texts k n H L h =
+    let e : suc (length H + length L) ≡ suc k - 0 = omega arith in
+    sym (whole_listing n H L) ∙ ap (λ (j : ℕ). texts_from j 0 n H L) e

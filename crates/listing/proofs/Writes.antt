@@ -1,13 +1,11 @@
 -- Texts that are written into an area one behind the other: what stands, and what is still to be written.
 use mathlib.Core.Path.{◌≡◌, refl, sym, ap, ap₂, ◌∙◌, subst}
-use mathlib.Core.List.{List, [], ◌∷◌, ◌++◌, append_assoc, append-nil}
-use Prim.Native.Nat.{ℕ, ◌+◌, ◌-◌, ◌≤◌, ◌<◌}
+use mathlib.Core.List.{List, [], ◌∷◌, ◌++◌, append_assoc}
+use Prim.Native.Nat.{ℕ, ◌+◌, ◌≤◌, ◌<◌}
 use native.Mathlib.Numerals.{add-one, unary_clauses}
 use native.Mathlib.Omega.{arith}
-use native.Mathlib.Nat.{zero-add}
-use lib.ListN.{length, take, drop, set, length-append, length-drop, take-append-drop, drop_of_length-le}
-use lib.Seq.{take_all, length-take-le, take_at, drop-append-add, drop-drop, set_split}
-use borrow.Rule.Slice.PartMut.{mid_of, post_of, put_mid}
+use lib.ListN.{length, take, drop, set, length-append, length-drop, take-append-drop}
+use lib.Seq.{length-take-le, take_at, drop-append-add, drop-drop, set_split}
 use Rattle.listing.specs.Writing.{overwritten}
 
 -- ---- one text
@@ -43,18 +41,6 @@ behind a at x y h =
     ∙ ap (λ (z : List ℕ). take at a ++ z) (sym (append_assoc x y (drop (n + length y) a)))
     ∙ ap (λ (k : ℕ). take at a ++ ((x ++ y) ++ drop k a)) (sym s)
 
--- writing a text at the front of the part from a place on is writing it at that place
-part_written : (a : List ℕ) (at : ℕ) (x ys : List ℕ) → at ≤ length a → ys ≡ overwritten (mid_of at (length a - at) a) 0 x
-    → put_mid at (length a - at) a ys ≡ overwritten a at x
-part_written a at x ys h e =
-    let n : ℕ = length a - at in
-    let l : length (drop at a) ≡ n = length-drop at a in
-    let mid : mid_of at n a ≡ drop at a = take_all n (drop at a) (omega arith) in
-    let post : post_of at n a ≡ [] = drop_of_length-le (drop at a) {i = n} (omega arith) in
-    let y : ys ≡ x ++ drop (at + length x) a =
-    e ∙ ap (λ (z : List ℕ). overwritten z 0 x) mid ∙ ap (λ (k : ℕ). x ++ drop k (drop at a)) (zero-add (length x)) ∙ ap (λ (z : List ℕ). x ++ z) (drop-drop (length x) at a) in
-    ap₂ (λ (z t : List ℕ). take at a ++ (z ++ t)) y post ∙ ap (λ (z : List ℕ). take at a ++ z) (append-nil (x ++ drop (at + length x) a))
-
 -- ---- of a text that is to stand in an area a from a place on, the rest is still to be written at the end of what stands in b
 pub record Still (a : List ℕ) (at : ℕ) (whole b : List ℕ) (end : ℕ) (rest : List ℕ) : Type 0 where
   pub room : at + length whole ≤ length a
@@ -88,13 +74,6 @@ module _ (a : List ℕ) (at : ℕ) (whole b : List ℕ) (end : ℕ) where
         kept = ap length e.1 ∙ overwritten_long b end x f ∙ s.kept;
         same = rw (e.1, e.0) (behind b end x rest (omega arith) ∙ s.same);
       }
-
-  -- the same, where it is written at the front of the part from the end of what stands on
-  pub part_next : (x rest ys : List ℕ) (k : ℕ) → Still a at whole b end (x ++ rest) → k ≡ length x → ys ≡ overwritten (mid_of end (length b - end) b) 0 x
-      → Still a at whole (put_mid end (length b - end) b ys) (end + k) rest
-  part_next x rest ys k s e p =
-      next_written x rest (put_mid end (length b - end) b ys) (end + k) s
-      (ap (λ (n : ℕ). end + n) e, part_written b end x ys (omega (arith, next_fits x rest s)) p)
 
   -- nothing is left
   pub none_left : (rest : List ℕ) → rest ≡ [] → Still a at whole b end rest → (end ≡ at + length whole) × (b ≡ overwritten a at whole)

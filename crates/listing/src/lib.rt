@@ -6,15 +6,11 @@ pub mod text;
 
 ghost use Rattle.std.specs.Prelude.{◌≡◌, ◌+◌, ◌≤◌, length};
 ghost use Rattle.configuration.specs.Configuration.{line};
-ghost use Rattle.hard.specs.Working.{hard_in, HardFits};
-ghost use Rattle.table.specs.Rows.{table_at, lines_of, Fits};
 ghost use Rattle.listing.specs.Listing.{hard_line, header_text, hard_text, line_text, text_of, listing_of};
 ghost use Rattle.listing.specs.Writer.{HasRoom, Wrote};
-ghost use Rattle.listing.specs.Writing.{overwritten};
 
-use hard::{number_of, polynomial_at};
-use table::lines::row;
-use table::order::row_at;
+use hard::HardList;
+use table::Lines;
 use text::Writer;
 
 // The header's line of the hard polynomials, which is not there if there are none.
@@ -70,80 +66,35 @@ fn put_line(writer: &mut Writer, f: &[u32], weight: i64)
     writer.put_byte(b'\n');
 }
 
-// The text of a number, at the front of the bytes: 0 is the header, then come the hard polynomials, numbered from 1, and behind
-// them the lines. It is for this crate and for `checker`, whose tables and hard lists fit and who tests the number.
-pub fn put_text(
-    out: &mut [u8],
-    variables: u32,
-    hard: &[u32],
-    lines: usize,
-    order: &[u64],
-    terms: &[u32],
-    weights: &[i64],
-    counts: &[u32],
-    number: usize,
-) -> usize
-    requires { HardFits hard.now × Fits 128 (table_at lines order.now terms.now weights.now counts.now) × (number ≤ length (hard_in hard.now) + lines)
-        × (8448 ≤ length out.old) }
-    ensures end { let H = hard_in hard.now in let L = lines_of (table_at lines order.now terms.now weights.now counts.now) in
-        result ≡ length (text_of number variables H L) }
-    ensures text { let H = hard_in hard.now in let L = lines_of (table_at lines order.now terms.now weights.now counts.now) in
-        out.new ≡ overwritten out.old 0 (text_of number variables H L) }
-    ensures room { result ≤ 8448 }
+// The text of a number: 0 is the header, then come the hard polynomials, numbered from 1, and behind them the lines. It is for this
+// crate and for `checker`, who test the number.
+pub fn put_text(writer: &mut Writer, variables: u32, hard: &HardList, lines: &Lines, number: usize)
+    requires number { number ≤ length hard.now + length lines.now }
+    requires room { writer.old.at + 8448 ≤ length writer.old.out.now }
+    ensures text { Wrote writer.old writer.new (text_of number variables hard.now lines.now) }
+    ensures room { writer.new.at ≤ writer.old.at + 8448 }
 {
-    let hard_count = number_of(hard);
-    let mut writer = Writer { out, at: 0 };
+    let hard_count = hard.len();
+    let line_count = lines.len();
     if number == 0 {
-        put_header(&mut writer, variables, lines, hard_count);
-        return writer.at;
+        return put_header(writer, variables, line_count, hard_count);
     }
     if number <= hard_count {
-        put_hard(&mut writer, polynomial_at(hard, number - 1));
-        return writer.at;
+        return put_hard(writer, hard.polynomial(number - 1));
     }
     let line = number - hard_count;
-    let here = row_at(order, line - 1);
-    let count = counts[here] as usize;
-    put_line(&mut writer, row(terms, here, count), weights[here]);
-    writer.at
+    let at = line - 1;
+    put_line(writer, lines.terms(at), lines.weight(at));
 }
 
-// The whole listing, from a place in the bytes on, text by text. It is for the crate `report`, whose tables and hard lists fit.
-pub fn put_listing(
-    out: &mut [u8],
-    at: usize,
-    variables: u32,
-    hard: &[u32],
-    lines: usize,
-    order: &[u64],
-    terms: &[u32],
-    weights: &[i64],
-    counts: &[u32],
-) -> usize
-    requires { HardFits hard.now × Fits 128 (table_at lines order.now terms.now weights.now counts.now) × (at + 1224960 ≤ length out.old) }
-    ensures end { let H = hard_in hard.now in let L = lines_of (table_at lines order.now terms.now weights.now counts.now) in
-        result ≡ at + length (listing_of variables H L) }
-    ensures text { let H = hard_in hard.now in let L = lines_of (table_at lines order.now terms.now weights.now counts.now) in
-        out.new ≡ overwritten out.old at (listing_of variables H L) }
-    ensures room { result ≤ at + 1224960 }
+// The whole listing, text by text. It is for the crate `report`.
+pub fn put_listing(writer: &mut Writer, variables: u32, hard: &HardList, lines: &Lines)
+    requires { writer.old.at + 1224960 ≤ length writer.old.out.now }
+    ensures text { Wrote writer.old writer.new (listing_of variables hard.now lines.now) }
+    ensures room { writer.new.at ≤ writer.old.at + 1224960 }
 {
-    let last = number_of(hard) + lines;
-    let mut end = at;
-    let mut number: usize = 0;
-    while number <= last {
-        let size = put_text(
-            &mut out[end..],
-            variables,
-            hard,
-            lines,
-            order,
-            terms,
-            weights,
-            counts,
-            number,
-        );
-        end += size;
-        number += 1;
+    let last = hard.len() + lines.len();
+    for number in 0..=last {
+        put_text(writer, variables, hard, lines, number);
     }
-    end
 }

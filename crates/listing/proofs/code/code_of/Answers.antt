@@ -1,65 +1,37 @@
-use mathlib.Core.Path.{◌≡◌, sym, ap, ◌∙◌}
-use mathlib.Core.List.{List}
-use Prim.Native.Nat.{ℕ, ◌+◌, ◌≤◌}
+-- `code_of` meets its contract.
+use mathlib.Core.Path.{◌≡◌, sym, ◌∙◌}
+use Prim.Native.Nat.{ℕ, suc, ◌+◌, ◌-◌}
 use native.Mathlib.Omega.{arith}
-use lib.ListN.{length, length-replicate}
-use lib.Seq.{length-take-le}
-use Rattle.hard.specs.Working.{hard_in}
-use Rattle.hard.specs.WorkingLaws.{run_room}
-use Rattle.table.specs.Rows.{Table, table_at, lines_of}
+use Rattle.listing.specs.Code.{code_of}
+use Rattle.listing.specs.CodeLaws.{codes_from}
 use Rattle.listing.proofs.Codes.{all_left, one_less, none_left}
 use Rattle.listing.proofs.code.code_of.Goals as goal
-use Rattle.listing.proofs.code.code_of.Goals.{After-number_of, Start}
+use Rattle.listing.proofs.code.code_of.Goals.{After-add_bytes-code}
 
-abbrev table : goal.Start → Table
-table s = let a = s.args in table_at a.lines a.order.now a.terms.now a.weights.now a.counts.now
+-- the last number
+abbrev last : goal.After-add_bytes-code → ℕ
+last c = c.len.result + c.len-2.result
 
--- the hard list
-abbrev held : goal.Start → List (List ℕ)
-held s = hard_in s.args.hard.now
-
--- the last number, of which there are at most 145
-abbrev last : goal.After-number_of → ℕ
-last c = c.number_of.result + c.args.lines
-
-last_is : (c : goal.After-number_of) → last c ≡ length (held (goal.at.After-number_of c).Start) + c.args.lines
-last_is c = ap (λ (k : ℕ). k + c.args.lines) c.number_of.ensures
-
-last_small : (c : goal.After-number_of) → last c ≤ 144
-last_small c = omega (arith, last_is c, run_room c.args.hard.now c.requires.0, c.requires.1.room)
-
-pub number_of-requires : goal.number_of-requires
-number_of-requires c = c.requires.0
-
-pub overflow_add-last : goal.overflow_add-last
-overflow_add-last c = omega (arith, last_small c)
+added : (c : goal.After-add_bytes-code)
+    → codes_from (suc (last c) - (c.loop-number.number + 1)) (c.loop-number.number + 1) c.add_bytes-code.result c.args.variables c.args.hard.now c.args.lines.now
+    ≡ code_of c.args.variables c.args.hard.now c.args.lines.now
+added c =
+    let a = c.args in
+    let i = c.loop-number in
+    let w = c.put_text.ensures.text in
+    one_less (last c) a.variables a.hard.now a.lines.now i.number i.code i.text _ c.put_text.new.writer.at _ c.loop-number-test.true (omega (arith, w.end)) w.bytes c.add_bytes-code.ensures
+    ∙ i.invariant
 
 pub loop-number-init : goal.loop-number-init
 loop-number-init c =
-    (all_left c.args.variables (held (goal.at.loop-number-init c).Start) c.requires.1 (last (goal.at.loop-number-init c).After-number_of) c.start-code.result (last_is (goal.at.loop-number-init c).After-number_of) c.start-code.ensures, omega arith, length-replicate {A = ℕ} 8448 0)
-
-pub put_text-size-requires : goal.put_text-size-requires
-put_text-size-requires c =
-    (c.requires.0, c.requires.1, omega (arith, c.loop-number-test.true, last_is (goal.at.put_text-size-requires c).After-number_of), omega (arith, c.loop-number.invariant.2))
-
-pub slice_bounds-add_bytes-end : goal.slice_bounds-add_bytes-end
-slice_bounds-add_bytes-end c =
-    let p = c.put_text-size in
-    sym (length-take-le p.result p.new.out (omega (arith, p.auto.out, p.ensures.room, c.loop-number.invariant.2)))
-
-pub overflow_add-number : goal.overflow_add-number
-overflow_add-number c = omega (arith, last_small (goal.at.overflow_add-number c).After-number_of, c.loop-number.invariant.1)
+    let a = c.args in
+    all_left (c.len.result + c.len-2.result) a.variables a.hard.now a.lines.now c.start-code.result (omega (arith, c.len.ensures.number, c.len-2.ensures.lines)) c.start-code.ensures
 
 pub loop-number-preserved : goal.loop-number-preserved
-loop-number-preserved c =
-    let p = c.put_text-size in (
-      one_less (last (goal.at.loop-number-preserved c).After-number_of) c.loop-number.number c.loop-number.code c.args.variables (held (goal.at.loop-number-preserved c).Start) (lines_of (table (goal.at.loop-number-preserved c).Start)) c.loop-number.text p.new.out p.result c.add_bytes-code.result
-          (omega (arith, c.loop-number-test.true)) p.ensures.end p.ensures.text c.add_bytes-code.ensures
-          ∙ c.loop-number.invariant.0,
-      omega (arith, c.loop-number-test.true),
-      p.auto.out ∙ c.loop-number.invariant.2,
-    )
+loop-number-preserved c = added (goal.at.loop-number-preserved c).After-add_bytes-code
 
-pub returns : goal.returns
-returns c =
-    sym (none_left (last (goal.at.returns c).After-number_of) c.loop-number.number c.loop-number.code c.args.variables (held (goal.at.returns c).Start) (lines_of (table (goal.at.returns c).Start)) c.loop-number-test.false) ∙ c.loop-number.invariant.0
+pub returns-2 : goal.returns-2
+returns-2 c =
+    let a = c.args in
+    sym (none_left (c.len.result + c.len-2.result) a.variables a.hard.now a.lines.now (c.loop-number.number + 1) c.add_bytes-code.result (omega arith))
+    ∙ added (goal.at.returns-2 c).After-add_bytes-code
