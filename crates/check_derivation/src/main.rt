@@ -6,20 +6,10 @@ use files::read_file;
 use report::check_files;
 use std::io;
 
-fn print<P: Print>(to: &P, text: &[u8]) -> io::Result<()> {
-    to.write_all(text)
-}
-
-// Prints the whole report, which is made in the lent area.
+// Prints the whole report, which is made in the lent area. The check did not end where this stood in `main`, which knows the area's zeros.
 fn print_report<P: Print>(to: &P, bytes: &[u8], steps: &[u8], out: &mut [u8]) -> io::Result<()> {
-    let size = check_files(bytes, steps, out);
-    print(to, &out[..size])
-}
-
-// Prints the whole report.
-fn run<P: Print>(to: &P, bytes: &[u8], steps: &[u8]) -> io::Result<()> {
-    let mut out = [0u8; 2449984];
-    print_report(to, bytes, steps, &mut out)
+    let end = check_files(bytes, steps, out);
+    to.write_all(&out[..end])
 }
 
 // One byte more than a file may have is read, so that a longer one is told.
@@ -28,5 +18,6 @@ fn main(rt: HostRuntime) -> io::Result<()> {
     let mut steps = [0u8; 8193];
     let size = read_file(&rt, b"problem.bin", &mut bytes);
     let count = read_file(&rt, b"steps.bin", &mut steps);
-    run(&rt, &bytes[..size], &steps[..count])
+    let mut out = [0u8; 2449984];
+    print_report(&rt, &bytes[..size], &steps[..count], &mut out)
 }

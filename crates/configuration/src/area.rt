@@ -11,6 +11,7 @@ pub fn part(area: &[u32], start: usize, count: usize) -> &[u32]
 }
 
 // Whether every number of an area is zero: their bits are joined, without a branch, so that several are looked at at once.
+#[tactic(auto, unfolding(crate::specs::Area::zeros))]
 pub fn is_zero(area: &[u32]) -> bool
     ensures { result ≡ zeros area.now }
 {

@@ -5,6 +5,7 @@ ghost use Rattle.configuration.specs.Configuration.{below, is_polynomial};
 use polynomial::order::in_order;
 
 // Whether a term has its variables among the first ones.
+#[tactic(auto, using(crate::proofs::Uses::uses_form_is_term))]
 pub fn is_term(variables: u32, term: u32) -> bool
     ensures { result ≡ ltb term (2 ^ variables) }
 {

@@ -3,6 +3,7 @@ ghost use Rattle.std.specs.Prelude.{◌≡◌};
 ghost use Rattle.configuration.specs.Weight.{in_range, is_negative};
 
 // Whether a weight is negative.
+#[tactic(auto, using(crate::proofs::Uses::uses_weight_is_negative))]
 pub fn is_negative(weight: i64) -> bool
     ensures { result ≡ is_negative weight }
 {

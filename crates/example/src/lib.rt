@@ -4,7 +4,4 @@
 
 pub mod answer;
 pub mod item;
-pub mod lending;
-pub mod operations;
 pub mod state;
-pub mod text;

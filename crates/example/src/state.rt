@@ -1,65 +1,66 @@
-// What goes from one item to the next.
-use crate::answer::Said;
+// What is lent from one item to the next, and the open operations on it.
+ghost use Rattle.std.specs.Prelude.{◌≤◌};
+
+use crate::answer::{Said, checked, filed, taken, written};
 use memory::{Entry, Head};
-use std::num::wrapping_add_u64;
+use step::Move;
 
-// How many examples were worked and how many of them came out otherwise than they should, what is lent, how many counts and
-// places of the hard list, and what the last operation answered. There is one count and one place more than should be lent.
-#[derive(Clone, Copy)]
+// How many places of each area are lent. No more can be than there are, of the table and the hard list one more than should be.
+#[derive(Clone, Copy, PartialEq, Eq)]
+struct Lengths {
+    terms: usize,
+    entries: usize,
+    counts: usize,
+    places: usize,
+    ghost terms_there: { terms ≤ 8192 },
+    ghost entries_there: { entries ≤ 129 },
+    ghost counts_there: { counts ≤ 17 },
+    ghost places_there: { places ≤ 1025 },
+}
+
+impl Lengths {
+    // Those that the operations ask for.
+    const DUE: Self = Lengths {
+        terms: 8192,
+        entries: 128,
+        counts: 16,
+        places: 1024,
+    };
+}
+
+// The head, the term area, the table, the counts and the places of the hard list, and how much of them is lent.
+#[derive(Clone, Copy, PartialEq, Eq)]
 pub struct State {
-    pub worked: u64,
-    pub differ: u64,
     pub head: Head,
-    pub terms: [u32; 8192],
-    pub entries: [Entry; 129],
-    pub hard_counts: [u32; 17],
-    pub hard_places: [u32; 1025],
-    pub counts_lent: u32,
-    pub places_lent: u32,
-    pub said: Said,
+    terms: [u32; 8192],
+    entries: [Entry; 129],
+    counts: [u32; 17],
+    places: [u32; 1025],
+    lent: Lengths,
 }
 
-// Whether two areas have the same number at each place.
-fn same_numbers(a: &[u32], b: &[u32]) -> bool {
-    if a.len() != b.len() {
-        return false;
+// A change of what is lent. Where there is no such place, it changes nothing.
+#[derive(Clone, Copy)]
+pub enum Change {
+    // Another head, the same number at each place of all areas, and the lengths that are due.
+    Areas { head: Head, number: u32 },
+    Term { place: usize, term: u32 },
+    Entry { place: usize, entry: Entry },
+    HardCount { place: usize, count: u32 },
+    HardTerm { place: usize, term: u32 },
+    // How many counts and how many places of the hard list are lent.
+    HardLent { counts: usize, places: usize },
+}
+
+// Writes to a place of an area, if there is such a place.
+fn put<T: Copy>(area: &mut [T], place: usize, value: T) {
+    if place < area.len() {
+        area[place] = value;
     }
-    let mut i: usize = 0;
-    while i < a.len() {
-        if a[i] != b[i] {
-            return false;
-        }
-        i += 1;
-    }
-    true
-}
-
-// Whether two records differ.
-fn differ(a: Entry, b: Entry) -> bool {
-    a.weight != b.weight || a.count != b.count
-}
-
-// Whether two tables have the same record at each place.
-fn same_entries(a: [Entry; 129], b: [Entry; 129]) -> bool {
-    let mut i: usize = 0;
-    while i < 129 {
-        if differ(a[i], b[i]) {
-            return false;
-        }
-        i += 1;
-    }
-    true
-}
-
-// Whether two heads are the same.
-fn same_head(a: Head, b: Head) -> bool {
-    a.variables == b.variables && a.lines == b.lines && a.hard == b.hard
 }
 
 impl State {
     pub const NONE: Self = State {
-        worked: 0,
-        differ: 0,
         head: Head {
             variables: 0,
             lines: 0,
@@ -70,134 +71,102 @@ impl State {
             weight: 0,
             count: 0,
         }; 129],
-        hard_counts: [0; 17],
-        hard_places: [0; 1025],
-        counts_lent: 16,
-        places_lent: 1024,
-        said: Said::ACCEPTED,
+        counts: [0; 17],
+        places: [0; 1025],
+        lent: Lengths::DUE,
     };
 
-    // The same count, and a head over areas of their lengths in which every number is the same.
-    pub fn over(self, head: Head, fill: u32) -> State {
-        let mut state = self;
-        let entry = Entry {
-            weight: fill as i64,
-            count: fill,
-        };
-        state.head = head;
-        state.terms = [fill; 8192];
-        state.entries = [entry; 129];
-        state.hard_counts = [fill; 17];
-        state.hard_places = [fill; 1025];
-        state.counts_lent = 16;
-        state.places_lent = 1024;
-        state
-    }
-
-    // With a term at a place, if there is such a place.
-    pub fn with_term(self, place: usize, term: u32) -> State {
-        let mut state = self;
-        if place < 8192 {
-            state.terms[place] = term;
+    pub fn change(&mut self, change: Change) {
+        match change {
+            Change::Areas { head, number } => {
+                let entry = Entry {
+                    weight: number as i64,
+                    count: number,
+                };
+                *self = State {
+                    head,
+                    terms: [number; 8192],
+                    entries: [entry; 129],
+                    counts: [number; 17],
+                    places: [number; 1025],
+                    lent: Lengths::DUE,
+                };
+            }
+            Change::Term { place, term } => put(&mut self.terms, place, term),
+            Change::Entry { place, entry } => put(&mut self.entries, place, entry),
+            Change::HardCount { place, count } => put(&mut self.counts, place, count),
+            Change::HardTerm { place, term } => put(&mut self.places, place, term),
+            Change::HardLent { counts, places } => {
+                self.lent.counts = counts.min(17);
+                self.lent.places = places.min(1025);
+            }
         }
-        state
     }
 
-    // With a record at a place, if there is such a place.
-    pub fn with_record(self, place: usize, weight: i64, count: u32) -> State {
-        let mut state = self;
-        if place < 129 {
-            state.entries[place] = Entry { weight, count };
+    // Lends so many places of the term area and so many records.
+    pub fn lend(&mut self, terms: usize, entries: usize) {
+        self.lent.terms = terms.min(8192);
+        self.lent.entries = entries.min(129);
+    }
+
+    // The same with the lengths that are due.
+    pub fn as_due(&self) -> State {
+        State {
+            lent: Lengths::DUE,
+            ..*self
         }
-        state
     }
 
-    // With a count of the hard list at a place, if there is such a place.
-    pub fn with_hard_count(self, place: usize, count: u32) -> State {
-        let mut state = self;
-        if place < 17 {
-            state.hard_counts[place] = count;
-        }
-        state
+    // Files the problem that the bytes are. It alone may write to the hard list.
+    pub fn file(&mut self, bytes: &[u8]) -> Said {
+        let lent = self.lent;
+        let (terms, _) = self.terms.split_at_mut(lent.terms);
+        let (entries, _) = self.entries.split_at_mut(lent.entries);
+        let (counts, _) = self.counts.split_at_mut(lent.counts);
+        let (places, _) = self.places.split_at_mut(lent.places);
+        let told = checker::file_problem(bytes, terms, entries, counts, places);
+        self.head = told.head;
+        filed(told.answer)
     }
 
-    // With a term of the hard list at a place, if there is such a place.
-    pub fn with_hard_term(self, place: usize, term: u32) -> State {
-        let mut state = self;
-        if place < 1025 {
-            state.hard_places[place] = term;
-        }
-        state
+    // Checks the derivation that the bytes are.
+    pub fn check(&mut self, bytes: &[u8]) -> Said {
+        let lent = self.lent;
+        let (terms, _) = self.terms.split_at_mut(lent.terms);
+        let (entries, _) = self.entries.split_at_mut(lent.entries);
+        let counts = &self.counts[..lent.counts];
+        let places = &self.places[..lent.places];
+        let told = checker::check_derivation(bytes, self.head, terms, entries, counts, places);
+        self.head = told.head;
+        checked(told.answer)
     }
 
-    // With so many counts and places of the hard list lent.
-    pub fn with_hard_lent(self, counts: u32, places: u32) -> State {
-        let mut state = self;
-        state.counts_lent = counts;
-        state.places_lent = places;
-        state
+    // Takes one step.
+    pub fn step(&mut self, asked: Move, f: &[u32], g: &[u32]) -> Said {
+        let lent = self.lent;
+        let Move { rule, mode, amount } = asked;
+        let (terms, _) = self.terms.split_at_mut(lent.terms);
+        let (entries, _) = self.entries.split_at_mut(lent.entries);
+        let counts = &self.counts[..lent.counts];
+        let places = &self.places[..lent.places];
+        let told = checker::take_step(
+            self.head, terms, entries, counts, places, rule, mode, f, g, amount,
+        );
+        self.head = told.head;
+        taken(told.answer)
     }
 
-    // With another hard list.
-    pub fn with_hard(self, counts: [u32; 17], places: [u32; 1025]) -> State {
-        let mut state = self;
-        state.hard_counts = counts;
-        state.hard_places = places;
-        state
-    }
-
-    // After an operation: what it leaves of the head, the term area and the table, and what it answered.
-    pub fn left(self, head: Head, terms: [u32; 8192], entries: [Entry; 129], said: Said) -> State {
-        let mut state = self;
-        state.head = head;
-        state.terms = terms;
-        state.entries = entries;
-        state.said = said;
-        state
-    }
-
-    // With one example more.
-    pub fn counted(self, as_due: bool) -> State {
-        let mut state = self;
-        state.worked = wrapping_add_u64(state.worked, 1);
-        if !as_due {
-            state.differ = wrapping_add_u64(state.differ, 1);
-        }
-        state
-    }
-
-    // Whether each count of the hard list is the same.
-    fn same_counts(self, other: State) -> bool {
-        let counts = self.hard_counts;
-        let others = other.hard_counts;
-        same_numbers(&counts, &others)
-    }
-
-    // Whether each place of the hard list is the same.
-    fn same_places(self, other: State) -> bool {
-        let places = self.hard_places;
-        let others = other.hard_places;
-        same_numbers(&places, &others)
-    }
-
-    // Whether the head and each place of the areas are the same.
-    pub fn same(self, other: State) -> bool {
-        let terms = self.terms;
-        let others = other.terms;
-        if !same_numbers(&terms, &others) {
-            return false;
-        }
-        let entries = self.entries;
-        let rows = other.entries;
-        if !same_entries(entries, rows) {
-            return false;
-        }
-        if !self.same_counts(other) {
-            return false;
-        }
-        if !self.same_places(other) {
-            return false;
-        }
-        same_head(self.head, other.head)
+    // Writes the line of a number at the front of a lent area.
+    pub fn write_line(&self, area: &mut [u8], number: usize) -> Said {
+        let lent = self.lent;
+        written(checker::write_line(
+            area,
+            self.head,
+            &self.terms[..lent.terms],
+            &self.entries[..lent.entries],
+            &self.counts[..lent.counts],
+            &self.places[..lent.places],
+            number,
+        ))
     }
 }

@@ -6,7 +6,8 @@ ghost use Rattle.io.specs.Counts.{IsPrefixLen};
 use std::fs::{File, Files};
 use std::io::Read;
 
-// Reads until the bytes are full, the file ends or a read fails, and answers how many bytes stand at the front.
+// Reads until the bytes are full, the file ends or a read fails, and answers how many bytes stand at the front. The library's own loops
+// do not serve: after a fault `read_exact` does not tell how many bytes it has read, and `read_to_end` reads to the heap.
 fn read_full<F: Read>(file: &mut F, out: &mut [u8]) -> usize
     ensures { IsPrefixLen result out.new }
 {

@@ -1,3 +1,1 @@
-pub mod Appends
-pub mod Fills
 pub mod Forms

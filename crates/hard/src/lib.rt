@@ -1,17 +1,13 @@
-// The hard list: whether what is lent of it is well formed, its working form, and reading and adding one polynomial.
+// The hard list: whether what is lent of it is well formed, and the type that holds it while an operation runs.
 #![tactic(auto)]
 
 pub mod form;
 
-ghost use Rattle.std.specs.Prelude.{◌≡◌, List, [], ◌++◌, ◌∷◌, ℕ, ◌≤◌, ◌<◌, T, is_some, IfSome, length, get_or};
+ghost use Rattle.std.specs.Prelude.{◌≡◌, [], ◌++◌, ◌∷◌, ◌≤◌, ◌<◌, T, is_some, IfSome, length, get_or};
 ghost use Rattle.hard.specs.Hard.{is_hard_list, hard_of, hard_image, hard_formed};
 ghost use Rattle.hard.specs.HardLaws.{AllShort};
-ghost use Rattle.hard.specs.Working.{flat, area_in, hard_in, run_of, HardFits};
 
-use configuration::area::part;
 use form::hard_formed;
-use polynomial::area::write;
-use polynomial::front;
 use std::marker::Model;
 
 /// At most 16 hard polynomials, each of at most 64 terms, in the order in which they came.
@@ -104,53 +100,4 @@ impl HardList {
         counts.copy_from_slice(&self.counts);
         places.copy_from_slice(&self.places);
     }
-}
-
-// How many hard polynomials there are. It is for the crates `step`, `listing`, `problem` and `checker`, whose runs fit.
-pub fn number_of(hard: &[u32]) -> usize
-    requires { HardFits hard.now }
-    ensures { result ≡ length (hard_in hard.now) }
-{
-    hard[0] as usize
-}
-
-// The polynomial at a place of the list, from 0. It is for the crates `step` and `listing`, who have tested the place.
-pub fn polynomial_at(hard: &[u32], i: usize) -> &[u32]
-    requires { HardFits hard.now × (i < length (hard_in hard.now)) }
-    ensures { result.now ≡ get_or (hard_in hard.now) i [] }
-{
-    let count = hard[1 + i] as usize;
-    front(part(hard, 17 + 64 * i, 64), count)
-}
-
-// Puts a polynomial at the end of the list. It is for the crate `problem`, which has tested that there is room.
-pub fn append(hard: &mut [u32], f: &[u32])
-    requires { HardFits hard.old × (length (hard_in hard.old) < 16) × (length f.now ≤ 64) }
-    ensures { let g = f.now in
-        ((n : ℕ) (H : List (List ℕ)) → T (is_hard_list n H) → hard.old ≡ run_of H → hard.new ≡ run_of (H ++ (g ∷ []))) }
-{
-    let number = hard[0];
-    let i = number as usize;
-    hard[0] = number + 1;
-    hard[1 + i] = f.len() as u32;
-    write(hard, 17 + 64 * i, f);
-}
-
-// From what is lent to the working form. It is for the crate `checker`, which has tested the lengths.
-pub fn gather(number: u32, counts: &[u32], places: &[u32], hard: &mut [u32])
-    requires { (length counts.now ≡ 16) × (length places.now ≡ 1024) × (length hard.old ≡ 1041) }
-    ensures { hard.new ≡ flat (record { number = number; counts = counts.now; places = places.now }) }
-{
-    hard[0] = number;
-    write(hard, 1, counts);
-    write(hard, 17, places);
-}
-
-// From the working form to what is lent, but for the number. It is for the crate `checker`, in the same way.
-pub fn scatter(hard: &[u32], counts: &mut [u32], places: &mut [u32])
-    requires { (length hard.now ≡ 1041) × (length counts.old ≡ 16) × (length places.old ≡ 1024) }
-    ensures { let a = area_in hard.now in (counts.new ≡ a.counts) × (places.new ≡ a.places) }
-{
-    write(counts, 0, part(hard, 1, 16));
-    write(places, 0, part(hard, 17, 1024));
 }

@@ -58,13 +58,7 @@ module _ (variable place : ℕ) (f out : List ℕ) (i : ℕ) where
   unfolding with_digits
   digits_all h k = ap₂ (λ (x y : List ℕ). x ++ with_digits variable place y (drop i out)) (take_all i out k) (drop_of_length-le f h) ∙ append-nil out
 
--- ---- one union more, and those of one index more
-pub row_more : (a : ℕ) (row table : List ℕ) (i : ℕ) → i < length row
-    → toggled (set table (bit_or a (get_or row i 0)) (bit_xor (get_or table (bit_or a (get_or row i 0)) 0) 1)) (map (bit_or a) (drop (i + 1) row))
-    ≡ toggled table (map (bit_or a) (drop i row))
-unfolding toggled
-row_more a row table i h = ap (λ (l : List ℕ). toggled table (map (bit_or a) l)) (sym (next row i h))
-
+-- ---- the unions of one index more
 toggled-append : (table l m : List ℕ) → toggled (toggled table l) m ≡ toggled table (l ++ m)
 unfolding toggled
 toggled-append table [] m = refl

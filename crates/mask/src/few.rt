@@ -94,7 +94,7 @@ fn indices(mask: u32, terms: &[u32], out: &mut [u32])
 }
 
 // Toggles the place of the union of an index with each index of a run.
-#[tactic(auto, using(crate::proofs::FewSteps::row_more), unfolding(crate::specs::Few::toggled))]
+#[tactic(auto, unfolding(crate::specs::Few::toggled))]
 fn toggle_row(index: u32, row: &[u32], table: &mut [u8])
     requires { All (λ u. bit_or index u < length table.old) row.now }
     ensures { table.new ≡ toggled table.old (map (bit_or index) row.now) }

@@ -40,6 +40,7 @@ impl Weighed {
 }
 
 // Looks up each change in a table. It is for this crate.
+#[tactic(auto, using(crate::proofs::Uses::uses_weigh))]
 pub fn weigh(table: &Lines, changes: &Changes) -> [Weighed; 4]
     requires { IsInOrder table.now × T (weights_fit table.now) × IsSmall 45 changes.now }
     ensures { take (length changes.now) result ≡ weighed_in changes.now table.now }

@@ -17,13 +17,13 @@ ghost use Rattle.replacement.specs.Passes.{IsSmall};
 use changes::{Weighed, weigh};
 use limits::judge;
 use passes::fold_all;
-use polynomial::Polynomial;
 use refusal::Reason;
 use table::{Changes, Lines};
 use term::key;
 
 // Replaces weighted polynomials in a table: the changes are added, and the limits judged on the outcome alone. A refusal changes
 // nothing. It is for the crate `step`, which asks for polynomials.
+#[tactic(auto, using(crate::proofs::Uses::uses_replace))]
 pub fn replace(table: &mut Lines, changes: &Changes) -> Result<(), Reason>
     requires { T (weights_fit table.old) × IsSmall 45 changes.now }
     ensures { record { reached = table.new; stop = stop_in result } ≡ after table.old (within (add_all changes.now table.old)) }
@@ -38,12 +38,13 @@ pub fn replace(table: &mut Lines, changes: &Changes) -> Result<(), Reason>
 
 // Adds one weighted polynomial to a table, within the limits. A refusal changes nothing. It is for the crate `problem`, which tests
 // the polynomial and the weight first.
+#[tactic(auto, using(crate::proofs::Uses::uses_add), unfolding(configuration::specs::Configuration::add_all))]
 pub fn add(table: &mut Lines, f: &[u32], amount: i64) -> Result<(), Reason>
     requires { T (weights_fit table.old) × (length f.now ≤ 64) × (mag amount < 2 ^ 42) × T (not (is_zero amount)) }
     ensures { record { reached = table.new; stop = stop_in result } ≡ after table.old (within (addTo f.now amount table.old)) }
 {
     let lines = table.len();
-    if f.len() == Polynomial::ZERO.count {
+    if f.is_empty() {
         return Ok(());
     }
     let first = key(f[0]);

@@ -7,10 +7,10 @@ ghost use Rattle.replacement.specs.Passes.{Room};
 ghost use Rattle.replacement.specs.Replacing.{new_weights, weighed_in, chosen, IsPlaced, moved_down};
 
 use crate::changes::Weighed;
-use table::lines::Known;
-use table::{Changes, Lines};
+use table::{Changes, Known, Lines};
 
 // Moves the places of the lines that stay, once those that vanish are gone. Where a line vanishes any place will do.
+#[tactic(auto, using(crate::proofs::Weighings::moved_more, crate::proofs::Weighings::moved_all))]
 fn shift(weighed: &mut [Weighed])
     ensures { weighed.new ≡ moved_down 0 weighed.old }
 {
@@ -44,6 +44,7 @@ fn fold_chosen(table: &mut Lines, changes: &Changes, weighed: &[Weighed], vanish
 }
 
 // Folds changes into a table, the lines that vanish first. It is for this crate, which judges the limits before.
+#[tactic(auto, using(crate::proofs::Uses::uses_fold_all))]
 pub fn fold_all(table: &mut Lines, changes: &Changes, weighed: &mut [Weighed])
     requires { let N = changes.now in let L = table.old in let K = weighed.old in
         IsInOrder N × IsInOrder L × (length L ≤ 128) × (K ≡ weighed_in N L) × T (all_in_range (new_weights K)) × (length (add_all N L) ≤ 128) }

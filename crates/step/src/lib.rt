@@ -48,6 +48,7 @@ fn is_held(table: &Lines, f: &[u32], asked: i64) -> bool
 }
 
 // Whether the weight that a rule takes away is there. SUM of a polynomial with itself asks for twice the amount.
+#[tactic(auto, using(crate::proofs::Asked::asked_once))]
 fn is_there(table: &Lines, rule: Rule, f: &[u32], g: &[u32], amount: i64) -> bool
     requires { T (in_range amount) }
     ensures { result ≡ there table.now (premises rule f.now g.now amount) }
@@ -74,9 +75,7 @@ fn is_named(hard: &HardList, rule: Rule) -> bool
 fn object(table: &Lines, hard: &HardList, f: &[u32], g: &[u32], asked: Move) -> Result<(), Reason>
     ensures { Finds (mode_tests hard.now asked.rule asked.mode f.now g.now asked.amount table.now) result }
 {
-    let rule = asked.rule;
-    let mode = asked.mode;
-    let amount = asked.amount;
+    let Move { rule, mode, amount } = asked;
     if let Mode::Plain = mode {
         if !table.none_negative() {
             return Err(Reason::NegativeLine);
@@ -118,6 +117,7 @@ pub fn misfit(variables: u32, f: &[u32], g: &[u32]) -> Result<(), Reason>
 
 // Takes a step on the lines of a table, or refuses it and changes nothing. It is for the crates `derivation` and `checker`, which
 // have made the table and tested the polynomials.
+#[tactic(auto, using(crate::proofs::Uses::uses_step))]
 pub fn step(
     table: &mut Lines,
     hard: &HardList,

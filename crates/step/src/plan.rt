@@ -1,6 +1,6 @@
 // What a rule takes away and gives, folded among themselves before the configuration is touched. It is for `step` of this crate
-// alone, which lends an empty table once the rule, the amount and the operands are tested: a table that is answered would be copied.
-// SUM and PROD read no hard list: the plans of both are promised for the empty one.
+// alone, which lends an empty table once the rule, the amount and the operands are tested. SUM and PROD read no hard list: the plans of
+// both are promised for the empty one. A table by value in the `Result`, three calls deep, took 105 to 131 ns in place of 33.
 ghost use Rattle.std.specs.Prelude.{◌≡◌, [], ◌∷◌, ◌≤◌, T, length};
 ghost use Rattle.configuration.specs.Weight.{in_range};
 ghost use Rattle.calculus.specs.Calculus.{rule_named};
@@ -90,6 +90,7 @@ fn plan_hard(
 }
 
 // The plan of a rule. It is for `step` of this crate.
+#[tactic(auto, using(crate::proofs::Plans::named_plan, crate::proofs::Plans::place_of))]
 pub fn plan_of(
     rule: Rule,
     f: &[u32],

@@ -1,11 +1,13 @@
 -- `add` meets its contract: the weight before and afterwards is judged, and only then the polynomial folded in at its place.
-use mathlib.Core.Path.{refl, ◌∙◌}
+use mathlib.Core.Path.{◌≡◌, refl, ◌∙◌}
 use mathlib.Core.List.{[], ◌∷◌}
 use Prim.Native.Nat.{◌^◌, ◌<◌}
 use native.Mathlib.Omega.{arith}
 use lib.Dec.{T}
 use lib.IntN.{◌+ℤ◌}
+use lib.ListN.{length}
 use lib.Signed.{mag}
+use Rattle.std.proofs.Common.{rules}
 use mir.Syntax.{w64}
 use mir.Val.{to_z, of_z}
 use mir.Facts.{to_z-of_z}
@@ -13,23 +15,18 @@ use Rattle.std.proofs.lemmas.Result.{err_from_is_err_and}
 use Rattle.configuration.specs.Configuration.{line, some, add_all}
 use Rattle.table.proofs.Searches.{some_of, first_key_lem}
 use Rattle.replacement.specs.Replacing.{weighed_in}
-use Rattle.replacement.proofs.Weighings.{held_is, sum_small, sum_fits, sum_is}
-use Rattle.replacement.proofs.Judgements.{Judged, judged_refused, judged_done, judged_few, nothing_added}
+use Rattle.replacement.proofs.Weighings.{held_is, sum_small, sum_is}
+use Rattle.replacement.proofs.Judgements.{Judged, judged_refused, judged_done, judged_few}
 use Rattle.replacement.proofs.add.Goals as goal
-use Rattle.replacement.proofs.add.Goals.{After-look_up-known, After-judge, Else-f, Start}
+use Rattle.replacement.proofs.add.Goals.{After-look_up-known, After-judge, Else-is_empty, Start}
 
-pub returns-then-f : goal.returns-then-f
-returns-then-f c = nothing_added c.args.f.now c.args.amount c.args.table.now c.if-f.true c.requires.0 (omega (arith, c.len-lines.ensures.lines, c.len-lines.ensures.few))
-
-not_zero : (c : goal.Else-f) → T (some c.args.f.now)
-not_zero c = some_of c.args.f.now c.if-f.false
+not_zero : (c : goal.Else-is_empty) → T (some c.args.f.now)
+not_zero c =
+    let n : length c.args.f.now ≡ 0 → ⊥ = search rules in
+    some_of c.args.f.now n
 
 small : (s : goal.Start) → mag s.args.amount < 2 ^ 45
 small s = omega (arith, s.requires.2)
-
-pub overflow_add-weighed : goal.overflow_add-weighed
-overflow_add-weighed c =
-    sum_fits c.args.table.now c.args.f.now c.args.amount c.len-lines.ensures.ordered c.requires.0 (small (goal.at.overflow_add-weighed c).Start) _ _ c.look_up-known.ensures.weight refl
 
 judged : (c : goal.After-judge) → (let L = c.args.table.now in let h = to_z w64 (of_z w64 c.look_up-known.result.weight) in
     let w = to_z w64 (of_z w64 c.args.amount) in
@@ -40,7 +37,7 @@ judged c =
     let s = small (goal.at.After-judge c).Start in
     let x = c.look_up-known.ensures in
     record {
-      new_ordered = (not_zero (goal.at.After-judge c).Else-f, (c.requires.3, (tt, tt)));
+      new_ordered = (not_zero (goal.at.After-judge c).Else-is_empty, (c.requires.3, (tt, tt)));
       old_ordered = c.len-lines.ensures.ordered;
       old_fit = c.requires.0;
       counted = c.len-lines.ensures.lines;
@@ -61,7 +58,7 @@ returns-in_err-judge c =
 pub add_at-requires : goal.add_at-requires
 unfolding add_all
 add_at-requires c =
-    let n = not_zero (goal.at.add_at-requires c).Else-f in
+    let n = not_zero (goal.at.add_at-requires c).Else-is_empty in
     rw (to_z-of_z c.ranges.amount) (
       omega arith,
       (

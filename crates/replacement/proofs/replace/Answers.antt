@@ -1,8 +1,7 @@
 -- `replace` meets its contract: the outcome is judged, and only then the changes are folded in.
 use native.Mathlib.Omega.{arith}
 use lib.ListN.{take}
-use Rattle.std.proofs.lemmas.Result.{err_from_is_err_and}
-use Rattle.replacement.proofs.Judgements.{Judged, judged_refused, judged_done, judged_few, judged_range}
+use Rattle.replacement.proofs.Judgements.{Judged, judged_done, judged_few, judged_range}
 use Rattle.replacement.proofs.replace.Goals as goal
 use Rattle.replacement.proofs.replace.Goals.{After-judge}
 
@@ -15,11 +14,6 @@ judged c = record {
   weighed = rw c.len.ensures.lines c.weigh-known.ensures;
   is_told = c.judge.ensures;
 }
-
-pub returns-in_err-judge : goal.returns-in_err-judge
-returns-in_err-judge c =
-    let p = err_from_is_err_and c.from_residual.result c.from_residual.ensures.1 in
-    rw (p.1, p.2) (judged_refused (judged (goal.at.returns-in_err-judge c).After-judge) c.in_err-judge.field-0.0 c.in_err-judge.was)
 
 pub fold_all-requires : goal.fold_all-requires
 fold_all-requires c =

@@ -1,14 +1,13 @@
 -- `is_there` meets its contract: a rule asks for its amount once, or twice where SUM's operands are the same polynomial.
 use mathlib.Core.Path.{◌≡◌, sym, ap, ◌∙◌}
-use mathlib.Core.Logic.{inl, inr}
 use mathlib.Core.Bool.{Bool, ◌&&◌}
 use lib.IntN.{◌+ℤ◌}
 use mir.Facts.{to_z-of_z}
 use Rattle.std.proofs.Common.{rules}
 use Rattle.calculus.specs.Calculus.{premises, there}
 use Rattle.calculus.specs.declared.Rule.{Rule}
-use Rattle.step.proofs.Amounts.{doubled_fits}
-use Rattle.step.proofs.Asked.{enough, asked_once, asked_twice, asked_each}
+use Rattle.step.proofs.Amounts.{doubled_is}
+use Rattle.step.proofs.Asked.{enough, asked_twice, asked_each}
 use Rattle.step.proofs.is_there.Goals as goal
 use Rattle.step.proofs.is_there.Goals.{After-is_held-in-Sum-2, Start}
 
@@ -19,7 +18,8 @@ pub returns-in-Sum : goal.returns-in-Sum
 returns-in-Sum c =
     let a = c.args in
     let h : a.f.now ≡ a.g.now = search rules in
-    let e : c.is_held.result ≡ enough a.table.now a.f.now (a.amount +ℤ a.amount) = rw (to_z-of_z c.ranges.amount, to_z-of_z (doubled_fits a.amount c.requires)) at c.is_held.ensures in
+    let e : c.is_held.result ≡ enough a.table.now a.f.now (a.amount +ℤ a.amount) =
+    c.is_held.ensures ∙ ap (enough a.table.now a.f.now) (doubled_is a.amount c.requires _ (to_z-of_z c.ranges.amount)) in
     e ∙ asked_twice a.table.now a.f.now a.g.now a.amount h ∙ by_rule (goal.at.returns-in-Sum c).Start c.in-Sum.is
 
 -- of two polynomials that differ, each is asked for once
@@ -43,10 +43,3 @@ returns-else-is_held c =
     let a = c.args in
     let k = each (goal.at.returns-else-is_held c).After-is_held-in-Sum-2 in
     c.if-is_held.false ∙ ap (λ (b : Bool). b && enough a.table.now a.g.now a.amount) (sym c.if-is_held.false ∙ k.0) ∙ k.1
-
-pub returns-in-Prod : goal.returns-in-Prod
-returns-in-Prod c =
-    let a = c.args in
-    let e : c.is_held-in-Prod.result ≡ enough a.table.now a.f.now a.amount = rw (to_z-of_z c.ranges.amount) at c.is_held-in-Prod.ensures in
-    e ∙ asked_once a.table.now a.f.now a.g.now a.amount
-    ∙ elim c.in-Prod.is [ inl e ↦ by_rule (goal.at.returns-in-Prod c).Start e | inr p ↦ by_rule (goal.at.returns-in-Prod c).Start p.1 ]

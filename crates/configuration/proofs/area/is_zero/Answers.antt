@@ -5,10 +5,6 @@ use Rattle.configuration.specs.Area.{zeros}
 use Rattle.configuration.proofs.Weights.{joined_zero}
 use Rattle.configuration.proofs.area.is_zero.Goals as goal
 
-pub loop-x-init : goal.loop-x-init
-unfolding zeros
-loop-x-init c = refl
-
 pub loop-x-preserved : goal.loop-x-preserved
 unfolding zeros
 loop-x-preserved c =

@@ -5,7 +5,7 @@ use native.Mathlib.Omega.{arith}
 use lib.ListN.{length, length-set}
 use Rattle.configuration.specs.Configuration.{weight, place_of}
 use Rattle.table.specs.Table.{terms_at, weight_at}
-use Rattle.replacement.proofs.Weighings.{small_at, held_is, sum_fits, sum_is, weighed_more, weighed_all}
+use Rattle.replacement.proofs.Weighings.{small_at, held_is, sum_fits, sum_is, weighed_more}
 use Rattle.replacement.proofs.changes.weigh.Goals as goal
 
 pub overflow_add-weighed : goal.overflow_add-weighed
@@ -30,6 +30,3 @@ loop-i-preserved c =
           (held_is L (terms_at N i) (weight_at N i) c.requires.0 c.requires.1 s _ _ x c.weight.ensures)
           (sum_is L (terms_at N i) (weight_at N i) c.requires.0 c.requires.1 s _ _ x c.weight.ensures) c.loop-i.invariant.1,
     )
-
-pub returns : goal.returns
-returns c = weighed_all c.args.changes.now c.args.table.now c.loop-i.i c.loop-i.weighed (omega arith) c.loop-i.invariant.1

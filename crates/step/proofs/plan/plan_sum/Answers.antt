@@ -55,7 +55,7 @@ told_sum c =
     exact (c.args.f.now ∷ c.args.g.now ∷ []) (sum (goal.at.After-sum-sum_length c).Start) _ _ _ (c.requires.0.0, (c.requires.1.0, tt)) (c.sum-sum_length.ensures.size, c.sum-sum_length.ensures.terms)
 
 product_is : (c : goal.Else-sum_length-gt64) → (let k = c.product-product_length in take k.result k.new.out ≡ product (goal.at.Else-sum_length-gt64 c).Start)
-product_is c = (told_product (goal.at.Else-sum_length-gt64 c).After-product-product_length).1 c.if-product_length-gt64.false
+product_is c = (told_product (goal.at.Else-sum_length-gt64 c).After-product-product_length).1 (omega arith)
 
 sum_is : (c : goal.Else-sum_length-gt64) → (let k = c.sum-sum_length in take k.result k.new.out ≡ sum (goal.at.Else-sum_length-gt64 c).Start)
 sum_is c = (told_sum (goal.at.Else-sum_length-gt64 c).After-sum-sum_length).1 c.if-sum_length-gt64.false
@@ -91,7 +91,7 @@ pub returns-then-sum_length-gt64 : goal.returns-then-sum_length-gt64
 returns-then-sum_length-gt64 c =
     let s = (goal.at.returns-then-sum_length-gt64 c).Start in
     let o = accepted (add_all (ruled s) []) in
-    not_long _ (product s) (told_product (goal.at.returns-then-sum_length-gt64 c).After-product-product_length).0 (short (sum s) ∷ []) o c.if-product_length-gt64.false
+    not_long _ (product s) (told_product (goal.at.returns-then-sum_length-gt64 c).After-product-product_length).0 (short (sum s) ∷ []) o (omega arith)
     (too_long_lem c.sum-sum_length.result (sum s) (told_sum (goal.at.returns-then-sum_length-gt64 c).After-sum-sum_length).0 [] o c.if-sum_length-gt64.true)
 
 pub add-requires : goal.add-requires
@@ -122,5 +122,5 @@ pub returns : goal.returns
 returns c =
     let s = (goal.at.returns c).Start in
     let o = accepted (add_all (ruled s) []) in
-    not_long _ (product s) (told_product (goal.at.returns c).After-product-product_length).0 (short (sum s) ∷ []) o c.if-product_length-gt64.false
+    not_long _ (product s) (told_product (goal.at.returns c).After-product-product_length).0 (short (sum s) ∷ []) o (omega arith)
     (not_long _ (sum s) (told_sum (goal.at.returns c).After-sum-sum_length).0 [] o c.if-sum_length-gt64.false (ap accepted (four (goal.at.returns c).After-add-4).holds))

@@ -1,9 +1,0 @@
--- `terms_of` is sound.
-use Rattle.std.proofs.Common.{◌-◌, ◌≤◌}
-use Rattle.example.proofs.item.terms_of.Given as goal
-
-abbrev pub invariant-loop-i : goal.invariant-loop-i
-invariant-loop-i l = l.i ≤ 128
-
-abbrev pub decreases-loop-i : goal.decreases-loop-i
-decreases-loop-i l = 128 - l.i

@@ -1,9 +1,0 @@
--- `same_numbers` is sound.
-use Rattle.std.proofs.Common.{◌-◌, ◌≤◌, length}
-use Rattle.example.proofs.state.same_numbers.Given as goal
-
-abbrev pub invariant-loop-i : goal.invariant-loop-i
-invariant-loop-i l = l.i ≤ length l.a
-
-abbrev pub decreases-loop-i : goal.decreases-loop-i
-decreases-loop-i l = length l.a - l.i

@@ -1,9 +1,0 @@
--- `with` is sound.
-use Rattle.std.proofs.Common.{◌-◌, ◌≤◌, length}
-use Rattle.example.proofs.text.Text.with.Given as goal
-
-abbrev pub invariant-loop-i : goal.invariant-loop-i
-invariant-loop-i l = l.i ≤ length l.part
-
-abbrev pub decreases-loop-i : goal.decreases-loop-i
-decreases-loop-i l = length l.part - l.i
