@@ -5,8 +5,7 @@
 ghost use Rattle.std.specs.Prelude.{◌≡◌};
 ghost use Rattle.report.specs.Report.{check_into, code_into};
 
-use listing::text::put_bytes;
-use report::{check_files, code_file, held};
+use report::{check_files, code_file};
 
 // All that the program `check_derivation` prints of these files, at the front of the area, and its length; 0 where the area is
 // shorter than 2,449,984 bytes, which hold every report.
@@ -27,7 +26,8 @@ pub extern "C" fn ittavluna_code(problem: &[u8], out: &mut [u8]) -> usize
         return 0;
     }
     let line = code_file(problem);
-    let size = held(line);
-    let bytes = line.bytes;
-    put_bytes(out, 0, &bytes[..size])
+    let text = line.as_slice();
+    let size = text.len();
+    out[..size].copy_from_slice(text);
+    size
 }

@@ -3,7 +3,7 @@
 #![tactic(auto)]
 
 use files::read_file;
-use report::{check_files, code_file, held};
+use report::{check_files, code_file};
 use std::alloc::Global;
 use std::fs::Files;
 use std::io;
@@ -23,7 +23,7 @@ fn run<R: Files + Print>(rt: &R, alloc: Global, number: usize, out: &mut [u8]) -
     let end = check_files(&bytes[..size], &steps[..count], out);
     rt.write_all(&out[..end])?;
     let line = code_file(&bytes[..size]);
-    rt.write_all(&line.bytes[..held(line)])
+    rt.write_all(line.as_slice())
 }
 
 fn main(rt: HostRuntime) -> io::Result<()> {

@@ -1,26 +1,25 @@
 -- The texts of the lines in the order in which they are written, their lengths, and the texts by value.
-use mathlib.Core.Path.{◌≡◌, sym, ap, ap₂, ◌∙◌}
-use mathlib.Core.List.{List, ◌++◌}
-use Prim.Native.Nat.{ℕ, ◌+◌, ◌-◌, ◌≤◌}
-use native.Mathlib.Nat.{zero-add}
+use mathlib.Core.Path.{◌≡◌, ap, ap₂, ◌∙◌}
+use mathlib.Core.List.{List}
+use Prim.Native.Nat.{ℕ, ◌+◌, ◌≤◌}
 use native.Mathlib.Omega.{arith}
 use lib.IntN.{ℤ}
-use lib.ListN.{length, take, drop, replicate, length-append, length-replicate, replicate-append-replicate}
-use lib.Seq.{take-append_seam, drop-append_seam}
+use lib.ListN.{length, take, length-append}
+use Rattle.std.specs.declared.result.Result.{Result}
+use Rattle.std.specs.declared.result.Result.TheVariants.{Ok, Err}
 use Rattle.listing.specs.Listing.{decimal, weight_text}
 use Rattle.listing.specs.ListingLaws.{decimal_short, decimal_digits, weight_short}
 use Rattle.listing.specs.Writing.{overwritten}
 use Rattle.listing.specs.declared.text.Writer.{Writer}
 use Rattle.listing.specs.Writer.{Wrote}
-use Rattle.report.specs.Report.{refusal_text, confirmed_text, filing_text, verdict_text, line_of}
+use Rattle.listing.proofs.Writes.{written_front}
+use Rattle.report.specs.Report.{refusal_text, confirmed_text, filing_text, verdict_text}
 use Rattle.refusal.specs.Refusal.{Refusal, refusal_of}
+use Rattle.refusal.specs.declared.Refused.{Refused}
 use Rattle.refusal.proofs.RefusalLaws.{number_most}
 use Rattle.problem.specs.Problem.{told_of_filing}
-use Rattle.problem.specs.declared.FilingAnswer.{FilingAnswer}
-use Rattle.problem.specs.declared.FilingAnswer.TheVariants.{Filed, Refused as Unfiled}
 use Rattle.derivation.specs.Derivation.{told_of_check}
-use Rattle.derivation.specs.declared.CheckAnswer.{CheckAnswer}
-use Rattle.derivation.specs.declared.CheckAnswer.TheVariants.{Confirmed, Refused}
+use Rattle.derivation.specs.declared.Confirmed.{Confirmed}
 
 -- ---- how long they are, and that 64 bytes hold every line
 pub refusal_length : (x : Refusal) (k : ℕ) → length (refusal_text x k) ≡ length (decimal x.number) + length (decimal k) + 20
@@ -31,42 +30,22 @@ pub confirmed_length : (w : ℤ) (d : ℕ) → length (confirmed_text w d) ≡ l
 unfolding confirmed_text
 confirmed_length w d = simp length-append (omega arith)
 
-pub refusal_short : (x : Refusal) (k : ℕ) → x.number ≤ 19 → length (refusal_text x k) ≤ 42
+refusal_short : (x : Refusal) (k : ℕ) → x.number ≤ 19 → length (refusal_text x k) ≤ 42
 refusal_short x k h = omega (arith, refusal_length x k, decimal_digits 1 x.number (omega arith) (omega arith), decimal_short k)
 
-pub confirmed_short : (w : ℤ) (d : ℕ) → length (confirmed_text w d) ≤ 60
+confirmed_short : (w : ℤ) (d : ℕ) → length (confirmed_text w d) ≤ 60
 confirmed_short w d = omega (arith, confirmed_length w d, weight_short w, decimal_short d)
 
--- ---- a text at the front of 64 zeros is the text by value
-zeros : (n k : ℕ) → drop n (replicate {A = ℕ} (n + k) 0) ≡ replicate k 0
-zeros n k =
-    let z : List ℕ = replicate n 0 in
-    let l : length z ≡ n = length-replicate {A = ℕ} n 0 in
-    ap (drop n) (sym (replicate-append-replicate {A = ℕ} n k 0)) ∙ ap (λ (x : ℕ). drop x (z ++ replicate k 0)) (sym l) ∙ drop-append_seam z (replicate k 0)
+pub filing_short : (a : Result (Unit {0}) Refused) → length (filing_text (told_of_filing a)) ≤ 64
+filing_short (Ok u) = omega arith
+filing_short (Err r) = omega (arith, refusal_short (refusal_of r.reason) r.record (number_most r.reason))
 
-pub by_value : (x bytes : List ℕ) (size : ℕ) → length x ≤ 64 → (size ≡ length x) × (bytes ≡ overwritten (replicate 64 0) 0 x)
-    → record { bytes = bytes; size = size } ≡ line_of x
-by_value x bytes size h e =
-    let n : ℕ = length x in
-    let k : n + (64 - n) ≡ 64 = omega arith in
-    let d : drop (0 + n) (replicate {A = ℕ} 64 0) ≡ replicate (64 - n) 0 =
-    ap₂ (λ (i j : ℕ). drop i (replicate {A = ℕ} j 0)) (zero-add n) (sym k) ∙ zeros n (64 - n) in
-    ap₂ (λ (b : List ℕ) (i : ℕ). record { bytes = b; size = i }) (e.1 ∙ ap (λ (t : List ℕ). x ++ t) d) e.0
+pub verdict_short : (a : Result Confirmed Refused) → length (verdict_text (told_of_check a)) ≤ 64
+verdict_short (Ok c) = omega (arith, confirmed_short c.claim c.degree)
+verdict_short (Err r) = omega (arith, refusal_short (refusal_of r.reason) r.record (number_most r.reason))
 
--- what a writer put at the front of 64 zeros
-pub line_written : {a b : Writer} {x : List ℕ} (bytes : List ℕ) → length x ≤ 64 → a.at ≡ 0 → a.out.now ≡ replicate 64 0 → Wrote a b x → bytes ≡ b.out.now
-    → record { bytes = bytes; size = b.at } ≡ line_of x
-line_written {a} {b} {x} bytes h z r w e =
-    by_value x bytes b.at h (omega (arith, w.end), e ∙ w.bytes ∙ ap₂ (λ (t : List ℕ) (i : ℕ). overwritten t i x) r z)
-
--- the front of a text by value is the text
-pub text_front : (x : List ℕ) → (let t = line_of x in take t.size t.bytes) ≡ x
-text_front x = take-append_seam x (replicate (64 - length x) 0)
-
-pub filing_short : (a : FilingAnswer) → length (filing_text (told_of_filing a)) ≤ 64
-filing_short Filed = omega arith
-filing_short (Unfiled k reason) = omega (arith, refusal_short (refusal_of reason) k (number_most reason))
-
-pub verdict_short : (a : CheckAnswer) → length (verdict_text (told_of_check a)) ≤ 64
-verdict_short (Confirmed w d) = omega (arith, confirmed_short w d)
-verdict_short (Refused k reason) = omega (arith, refusal_short (refusal_of reason) k (number_most reason))
+-- ---- a text by value: what a writer put at the front of an area
+pub by_value : {a b : Writer} {x : List ℕ} (bytes : List ℕ) → a.at ≡ 0 → Wrote a b x → bytes ≡ b.out.now → take b.at bytes ≡ x
+by_value {a} {b} {x} bytes z w e =
+    let n : b.at ≡ length x = omega (arith, w.end) in
+    ap₂ take n (e ∙ w.bytes ∙ ap (λ (i : ℕ). overwritten a.out.now i x) z) ∙ written_front a.out.now x

@@ -1,6 +1,6 @@
 -- What the programs print of their files' bytes. Document 01: "`problem refused R at record K`", "`confirmed W degree D` (claim and degree) or `refused R
 -- at record K`", and "the code of the whole listing .. as sixteen lower-case hex digits". Every line ends in a newline byte.
-use Rattle.std.specs.Prelude.{cond, List, [], ◌++◌, ℕ, ◌-◌, leb, ℤ, length, drop, replicate}
+use Rattle.std.specs.Prelude.{cond, List, [], ◌++◌, ℕ, leb, ℤ, length, drop}
 use Rattle.io.specs.Digits.{last_digits}
 use Rattle.refusal.specs.Refusal.{Refusal}
 use Rattle.refusal.specs.Outcome.{Told, answered, refused_at}
@@ -10,7 +10,6 @@ use Rattle.listing.specs.Listing.{decimal, weight_text, listing_of}
 use Rattle.listing.specs.Code.{code_of}
 use Rattle.problem.specs.Problem.{file_problem}
 use Rattle.derivation.specs.Derivation.{Confirmation, check_derivation}
-use Rattle.report.specs.declared.Text.{Text}
 
 -- ---- the lines besides the listings
 -- a refusal by its number; a detail is not printed
@@ -79,7 +78,3 @@ check_into problem steps area = given 2449984 (check_of_files problem steps) are
 -- the line that the second program prints
 abbrev pub code_into : List ℕ → List ℕ → Given
 code_into problem area = given 64 (code_of_file problem) area
-
--- ---- a line of at most 64 bytes by value: unused places are zero
-abbrev pub line_of : List ℕ → Text
-line_of s = record { bytes = s ++ replicate (64 - length s) 0; size = length s }
