@@ -36,13 +36,14 @@ pub struct Checking {
 impl Model for Checking {
     ghost use Rattle.std.specs.Prelude.{option_map, IfSome};
     ghost use Rattle.polynomial.specs.Polynomial.{terms_of};
-    ghost use Rattle.derivation.specs.Held.{Begun, IsHeld};
+    ghost use Rattle.walk.specs.Held.{IsWork};
+    ghost use Rattle.derivation.specs.Held.{Begun};
 
     ghost Value = { Begun };
 
     ghost view = { λ c. record { mode = c.mode; first = option_map terms_of c.first; work = terms_of c.work; claim = c.claim; degree = c.degree } };
 
-    ghost invariant = { λ c. IsHeld c.work × IfSome c.first IsHeld };
+    ghost invariant = { λ c. IsWork c.work × IfSome c.first IsWork };
 }
 
 // Whether a claim is from 0 to 10^12.
