@@ -1,28 +1,28 @@
 // What an operation answers, and its words.
-use checker::{LineAnswer, StepAnswer};
-use derivation::CheckAnswer;
-use problem::FilingAnswer;
-use refusal::{Reason, number};
+use derivation::Confirmed;
+use refusal::{Reason, Refused, number};
 use std::fmt;
 
 // What an operation said.
 #[derive(Clone, Copy)]
 pub enum Said {
     Accepted,
-    Confirmed { claim: i64, degree: u32 },
+    Confirmed(Confirmed),
     Written(usize),
-    Refused { place: u64, reason: Reason },
+    Refused(Refused),
 }
 
 impl fmt::Display for Said {
     fn fmt<W: fmt::Write>(&self, f: &mut fmt::Formatter<W>) -> fmt::Result {
         match *self {
             Said::Accepted => write!(f, "accepted"),
-            Said::Confirmed { claim, degree } => write!(f, "confirmed {claim} degree {degree}"),
+            Said::Confirmed(Confirmed { claim, degree }) => {
+                write!(f, "confirmed {claim} degree {degree}")
+            }
             Said::Written(size) => write!(f, "written {size}"),
-            Said::Refused { place, reason } => {
+            Said::Refused(Refused { record, reason }) => {
                 let number = number(reason);
-                write!(f, "refused {number} at record {place}")?;
+                write!(f, "refused {number} at record {record}")?;
                 if let Reason::TooManyTerms(terms) = reason {
                     write!(f, ", {terms} terms")?;
                 }
@@ -32,34 +32,32 @@ impl fmt::Display for Said {
     }
 }
 
-// What a filing said.
-pub fn filed(answer: FilingAnswer) -> Said {
-    match answer {
-        FilingAnswer::Filed => Said::Accepted,
-        FilingAnswer::Refused(place, reason) => Said::Refused { place, reason },
-    }
-}
-
-// What a step said.
-pub fn taken(answer: StepAnswer) -> Said {
-    match answer {
-        StepAnswer::Taken => Said::Accepted,
-        StepAnswer::Refused(place, reason) => Said::Refused { place, reason },
+// What a filing or a step said.
+impl From<Result<(), Refused>> for Said {
+    fn from(answer: Result<(), Refused>) -> Said {
+        match answer {
+            Ok(()) => Said::Accepted,
+            Err(refused) => Said::Refused(refused),
+        }
     }
 }
 
 // What a check said.
-pub fn checked(answer: CheckAnswer) -> Said {
-    match answer {
-        CheckAnswer::Confirmed(claim, degree) => Said::Confirmed { claim, degree },
-        CheckAnswer::Refused(place, reason) => Said::Refused { place, reason },
+impl From<Result<Confirmed, Refused>> for Said {
+    fn from(answer: Result<Confirmed, Refused>) -> Said {
+        match answer {
+            Ok(confirmed) => Said::Confirmed(confirmed),
+            Err(refused) => Said::Refused(refused),
+        }
     }
 }
 
 // What the writing of a line said.
-pub fn written(answer: LineAnswer) -> Said {
-    match answer {
-        LineAnswer::Written(size) => Said::Written(size),
-        LineAnswer::Refused(place, reason) => Said::Refused { place, reason },
+impl From<Result<usize, Refused>> for Said {
+    fn from(answer: Result<usize, Refused>) -> Said {
+        match answer {
+            Ok(size) => Said::Written(size),
+            Err(refused) => Said::Refused(refused),
+        }
     }
 }

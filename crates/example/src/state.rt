@@ -1,7 +1,7 @@
 // What is lent from one item to the next, and the open operations on it.
 ghost use Rattle.std.specs.Prelude.{◌≤◌};
 
-use crate::answer::{Said, checked, filed, taken, written};
+use crate::answer::Said;
 use memory::{Entry, Head};
 use step::Move;
 
@@ -124,9 +124,7 @@ impl State {
         let (entries, _) = self.entries.split_at_mut(lent.entries);
         let (counts, _) = self.counts.split_at_mut(lent.counts);
         let (places, _) = self.places.split_at_mut(lent.places);
-        let told = checker::file_problem(bytes, terms, entries, counts, places);
-        self.head = told.head;
-        filed(told.answer)
+        checker::file_problem(bytes, &mut self.head, terms, entries, counts, places).into()
     }
 
     // Checks the derivation that the bytes are.
@@ -136,37 +134,41 @@ impl State {
         let (entries, _) = self.entries.split_at_mut(lent.entries);
         let counts = &self.counts[..lent.counts];
         let places = &self.places[..lent.places];
-        let told = checker::check_derivation(bytes, self.head, terms, entries, counts, places);
-        self.head = told.head;
-        checked(told.answer)
+        checker::check_derivation(bytes, &mut self.head, terms, entries, counts, places).into()
     }
 
     // Takes one step.
     pub fn step(&mut self, asked: Move, f: &[u32], g: &[u32]) -> Said {
         let lent = self.lent;
-        let Move { rule, mode, amount } = asked;
         let (terms, _) = self.terms.split_at_mut(lent.terms);
         let (entries, _) = self.entries.split_at_mut(lent.entries);
         let counts = &self.counts[..lent.counts];
         let places = &self.places[..lent.places];
-        let told = checker::take_step(
-            self.head, terms, entries, counts, places, rule, mode, f, g, amount,
-        );
-        self.head = told.head;
-        taken(told.answer)
+        checker::take_step(
+            &mut self.head,
+            terms,
+            entries,
+            counts,
+            places,
+            f,
+            g,
+            asked,
+        )
+        .into()
     }
 
     // Writes the line of a number at the front of a lent area.
     pub fn write_line(&self, area: &mut [u8], number: usize) -> Said {
         let lent = self.lent;
-        written(checker::write_line(
+        checker::write_line(
             area,
-            self.head,
+            &self.head,
             &self.terms[..lent.terms],
             &self.entries[..lent.entries],
             &self.counts[..lent.counts],
             &self.places[..lent.places],
             number,
-        ))
+        )
+        .into()
     }
 }
