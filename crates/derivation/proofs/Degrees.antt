@@ -1,17 +1,13 @@
 -- The largest degree so far: the first term of the first line tells that of lines in order; and with those that are still to be met the largest so far gives the whole.
 use mathlib.Core.Path.{◌≡◌, refl, sym, ap, ◌∙◌}
 use mathlib.Core.List.{List, [], ◌∷◌}
-use Prim.Native.Nat.{ℕ, suc, ◌-◌, ◌/◌, ◌^◌, ◌≤◌, ◌<◌, max}
+use Prim.Native.Nat.{ℕ, suc, ◌-◌, ◌≤◌, ◌<◌, max}
 use native.Mathlib.Omega.{arith}
-use lib.Dec.{T}
-use lib.IntN.{ℤ}
 use lib.ListN.{length}
 use Rattle.refusal.specs.Outcome.{accepted}
-use Rattle.term.specs.OrderLaws.{key_degree}
 use Rattle.polynomial.specs.Polynomial.{IsOrdered, RunBelow}
-use Rattle.configuration.specs.Configuration.{Line, line, some, IsInOrder, Every}
+use Rattle.configuration.specs.Configuration.{Line, line, IsInOrder, Every}
 use Rattle.configuration.specs.LineLaws.{Every-map}
-use Rattle.table.specs.Rows.{first_key}
 use Rattle.table.specs.Table.{first_degree}
 use Rattle.walk.specs.Walk.{Progress, begun}
 use Rattle.walk.specs.WalkLaws.{gathers, gathers_none}
@@ -19,15 +15,11 @@ use Rattle.derivation.specs.Derivation.{State, fresh, on_record, checking, large
 use Rattle.derivation.proofs.DegreeLaws.{degree_ahead, degree_first}
 
 -- ---- the lines
--- the key of the first term tells the degree
-by_key : (f : List ℕ) (w : ℤ) (L : List Line) → T (some f) → IsInOrder (line f w ∷ L) → Every (RunBelow 32) (line f w ∷ L) → first_key f / 2 ^ 32 ≡ degree_in (line f w ∷ L)
-by_key [] w L s o r = absurd s
-by_key (t ∷ f) w L s o r = key_degree t r.0.0.0 ∙ sym (degree_first t f w L o (Every-map (RunBelow 32) IsOrdered (λ g h. h.1) (line (t ∷ f) w ∷ L) r))
-
 pub first_degree_lem : (L : List Line) → IsInOrder L → Every (RunBelow 32) L → first_degree L ≡ degree_in L
 unfolding degree_in largest
 first_degree_lem [] o r = refl
-first_degree_lem (line f w ∷ L) o r = by_key f w L o.0 o r
+first_degree_lem (line [] w ∷ L) o r = absurd o.0
+first_degree_lem (line (t ∷ f) w ∷ L) o r = sym (degree_first t f w L o (Every-map (RunBelow 32) IsOrdered (λ g h. h.1) (line (t ∷ f) w ∷ L) r))
 
 -- ---- the way
 -- the largest degree so far is d, and with what is ahead it becomes D

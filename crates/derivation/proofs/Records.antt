@@ -12,11 +12,11 @@ use Rattle.std.specs.declared.option.Option.{Option}
 use Rattle.std.specs.declared.option.Option.TheVariants.{Some, None}
 use Rattle.std.specs.Prelude.{◌==◌, option_map, is_some, unwrap_or}
 use Rattle.refusal.specs.Refusal.{refusal_of}
-use Rattle.refusal.specs.Outcome.{Reached, after, stop_in}
+use Rattle.refusal.specs.Outcome.{Reached, after, stop_of}
 use Rattle.refusal.specs.OutcomeLaws.{after-accepted, after-refused}
 use Rattle.refusal.specs.declared.Reason.{Reason}
 use Rattle.run.specs.BooleanLaws.{of_true}
-use Rattle.polynomial.specs.Polynomial.{ZERO, ONE, IsOrdered, IsBelow, RunBelow}
+use Rattle.polynomial.specs.Polynomial.{ZERO, ONE, IsBelow, RunBelow}
 use Rattle.hard.specs.Hard.{hard_at}
 use Rattle.configuration.specs.Configuration.{Line, Every, some, weight, any_negative}
 use Rattle.calculus.specs.Calculus.{step}
@@ -27,13 +27,10 @@ use Rattle.std.specs.declared.result.Result.TheVariants.{Ok, Err}
 use borrow.Author.Tests.{ne_eqb}
 use Rattle.walk.specs.Held.{progress_at, Does}
 use Rattle.calculus.specs.declared.Rule.{Rule}
-use Rattle.record.specs.Record.{whole, number_at, signed_at, byte_in, amount_in}
+use Rattle.record.specs.Record.{whole, signed_at, byte_in, amount_in}
 use Rattle.record.proofs.Bodies.{byte_cut, byte_whole, amount_cut, amount_whole}
 use Rattle.walk.specs.Walk.{Progress}
 use Rattle.walk.specs.Work.{term_added}
-use Rattle.walk.specs.WalkLaws.{IfAccepted}
-use Rattle.walk.specs.WorkLaws.{term_ind}
-use Rattle.polynomial.specs.PolynomialLaws.{sum_ordered}
 use Rattle.refusal.specs.declared.Reason.TheVariants.{CutShort, Misplaced, OutOfRange, NegativeLine, ClaimTooHigh}
 use Rattle.derivation.specs.Derivation.{State, going, claim_fits, on_term, on_step, on_hard, on_claim}
 use Rattle.derivation.specs.Held.{Begun, state_in, is_going, is_free, is_idle, hard_ask, step_asked, IsUsable}
@@ -82,7 +79,7 @@ module _ (H : List (List ℕ)) (s : List ℕ) (at : ℕ) (x y : State) (o : Resu
 
 -- ---- the lines of a step that is taken
 pub step_lines : (H : List (List ℕ)) (r : Rule) (d : Mode) (f g : List ℕ) (w : ℤ) (L M : List Line) (o : Result (Unit {0}) Reason) (u : Unit {0})
-    → ◌≡◌ {A = Reached (List Line)} (record { reached = M; stop = stop_in o }) (after L (step H r d f g w L)) → o ≡ Ok u
+    → ◌≡◌ {A = Reached (List Line)} (record { reached = M; stop = stop_of o }) (after L (step H r d f g w L)) → o ≡ Ok u
     → RunBelow 32 f → RunBelow 32 g → Every (RunBelow 32) L → ((i : ℕ) → IsBelow 32 (hard_at H i)) → Every (RunBelow 32) M
 step_lines H r d f g w L M o u e k a b l h = step_run H r d f g w 32 L M h a b l (after-accepted L M (step H r d f g w L) (rw k at e))
 
@@ -99,12 +96,7 @@ module _ (v b : Begun) (same : v ≡ b) where
 
   -- a term that is added
   module _ (n : ℕ) (s : List ℕ) (at : ℕ) (g : List ℕ) (o : Result (Unit {0}) Reason)
-      (e : ◌≡◌ {A = Reached (List ℕ)} (record { reached = g; stop = stop_in o }) (after v.work (term_added n s (at + 1) v.work))) where
-    pub term_ordered : (u : Unit {0}) → o ≡ Ok u → IsOrdered g
-    term_ordered u k =
-        rw (after-accepted v.work g (term_added n s (at + 1) v.work) (rw k at e))
-        at (term_ind n s (at + 1) v.work (λ r. IfAccepted (λ f. IsOrdered f) r) (λ x. tt) (λ i j l. sum_ordered (number_at 4 s (at + 1) ∷ []) v.work))
-
+      (e : ◌≡◌ {A = Reached (List ℕ)} (record { reached = g; stop = stop_of o }) (after v.work (term_added n s (at + 1) v.work))) where
     abbrev with_sum : Begun
     with_sum = record { mode = v.mode; first = v.first; work = g; claim = v.claim; degree = v.degree }
 

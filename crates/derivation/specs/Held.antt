@@ -1,9 +1,8 @@
 -- How code tells records apart, and holds a check while it reads: the mode, f, the work polynomial, the claim and the degree; the lines and the hard list lie beside it.
-use Rattle.std.specs.Prelude.{Bool, cond, not, ◌&&◌, List, ℕ, ◌+◌, ◌≤◌, T, eqb, ℤ, pos, Option, Some, None, is_some, unwrap_or, option_map, option_and_then}
+use Rattle.std.specs.Prelude.{Bool, cond, not, ◌&&◌, List, ℕ, ◌+◌, T, eqb, ℤ, pos, Option, Some, None, is_some, unwrap_or, option_map, option_and_then}
 use Rattle.refusal.specs.Refusal.{numbered}
 use Rattle.refusal.specs.Outcome.{Outcome, refused, unless}
-use Rattle.polynomial.specs.Polynomial.{ZERO, IsOrdered, IsBelow, RunBelow, terms_of}
-use Rattle.polynomial.specs.declared.Polynomial.{Polynomial}
+use Rattle.polynomial.specs.Polynomial.{ZERO, IsBelow, RunBelow}
 use Rattle.hard.specs.Hard.{hard_at}
 use Rattle.configuration.specs.Configuration.{Line, Every, some, weights_fit}
 use Rattle.calculus.specs.Calculus.{step}
@@ -65,10 +64,6 @@ is_idle b = is_free b && not (some b.work)
 -- before the first record
 abbrev pub opening : List Line → Begun
 opening L = record { mode = None; first = None; work = ZERO; claim = None; degree = degree_in L }
-
--- a polynomial of the code is one: at most 64 terms, in order
-abbrev pub IsHeld : Polynomial → Type 0
-IsHeld f = (f.count ≤ 64) × IsOrdered (terms_of f)
 
 -- ---- steps
 -- what a step asks of the lines, f, the work polynomial and the hard list

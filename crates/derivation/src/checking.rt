@@ -5,7 +5,8 @@ ghost use Rattle.configuration.specs.Configuration.{Line, Every, is_configuratio
 ghost use Rattle.hard.specs.Hard.{is_hard_list};
 ghost use Rattle.record.specs.Record.{amount_in};
 ghost use Rattle.walk.specs.Held.{Does};
-ghost use Rattle.derivation.specs.Derivation.{claim_fits, on_mode, on_term, on_choice, on_step, on_hard, on_claim, on_record, degree_in, check_derivation, told_of_check};
+ghost use Rattle.derivation.specs.Derivation.{claim_fits, on_mode, on_term, on_choice, on_claim, on_record, degree_in};
+ghost use Rattle.derivation.specs.Derivation.{check_derivation, told_of_check};
 ghost use Rattle.derivation.specs.Held.{state_in, is_going, is_free, is_idle, opening, hard_ask, step_asked, IsUsable};
 
 use crate::Confirmed;
@@ -35,13 +36,14 @@ pub struct Checking {
 impl Model for Checking {
     ghost use Rattle.std.specs.Prelude.{option_map, IfSome};
     ghost use Rattle.polynomial.specs.Polynomial.{terms_of};
-    ghost use Rattle.derivation.specs.Held.{Begun, IsHeld};
+    ghost use Rattle.walk.specs.Held.{IsWork};
+    ghost use Rattle.derivation.specs.Held.{Begun};
 
     ghost Value = { Begun };
 
     ghost view = { λ c. record { mode = c.mode; first = option_map terms_of c.first; work = terms_of c.work; claim = c.claim; degree = c.degree } };
 
-    ghost invariant = { λ c. IsHeld c.work × IfSome c.first IsHeld };
+    ghost invariant = { λ c. IsWork c.work × IfSome c.first IsWork };
 }
 
 // Whether a claim is from 0 to 10^12.
@@ -91,7 +93,7 @@ impl Checking {
         self.mode.is_some() && self.claim.is_none()
     }
 
-    // Whether, besides, f is not set.
+    // Whether the mode has come, the claim has not, and f is not set.
     fn is_free(&self) -> bool
         ensures { result ≡ is_free self.now }
     {
@@ -99,6 +101,7 @@ impl Checking {
     }
 
     // Whether, besides, the work polynomial has no term.
+    #[tactic(auto, using(crate::proofs::Records::idle_is, crate::proofs::Records::no_term))]
     fn is_idle(&self) -> bool
         ensures { result ≡ is_idle self.now }
     {

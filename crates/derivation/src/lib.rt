@@ -24,6 +24,7 @@ pub struct Confirmed {
 
 // Checks the derivation that the bytes are, on the lines of a table, with a hard list: reads the records one after the other, up
 // to the first that is refused. It is for the crates `checker` and `report`.
+#[tactic(auto, using(crate::proofs::DegreeLaws::lines_run))]
 pub fn check_derivation(
     bytes: &[u8],
     variables: u32,

@@ -1,17 +1,10 @@
 // The order of polynomials.
-ghost use Rattle.std.specs.Prelude.{◌≡◌, min};
+ghost use Rattle.std.specs.Prelude.{◌≡◌};
 ghost use Rattle.term.specs.Term.{before};
 ghost use Rattle.run.specs.Run.{sorted};
 ghost use Rattle.polynomial.specs.Polynomial.{order_of};
 
 use std::cmp::Ordering;
-
-// The lesser of two numbers. It is for the crate `table`.
-pub fn least(a: usize, b: usize) -> usize
-    ensures { result ≡ min a b }
-{
-    a.min(b)
-}
 
 // Where one run of terms stands beside another, which is less if it stands earlier: at the first place where they differ the one with
 // the earlier term is first, and of two that do not differ the shorter.

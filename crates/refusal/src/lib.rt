@@ -53,13 +53,6 @@ pub struct Refused {
     pub reason: Reason,
 }
 
-// What is found against something, if anything.
-#[derive(Clone, Copy)]
-pub enum Objection {
-    Nothing,
-    Found(Reason),
-}
-
 // The number of a reason in documents 01 and 02.
 pub fn number(reason: Reason) -> u32
     ensures { result ≡ (refusal_of reason).number }

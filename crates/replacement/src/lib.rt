@@ -8,7 +8,7 @@ mod passes;
 
 ghost use Rattle.std.specs.Prelude.{◌≡◌, not, ◌≤◌, ◌<◌, ◌^◌, T, length};
 ghost use Rattle.std.specs.Int.Signed.{mag};
-ghost use Rattle.refusal.specs.Outcome.{after, stop_in};
+ghost use Rattle.refusal.specs.Outcome.{after, stop_of};
 ghost use Rattle.configuration.specs.Weight.{is_zero};
 ghost use Rattle.configuration.specs.Configuration.{add as addTo, add_all, weights_fit};
 ghost use Rattle.configuration.specs.Limits.{within};
@@ -26,7 +26,7 @@ use term::key;
 #[tactic(auto, using(crate::proofs::Uses::uses_replace))]
 pub fn replace(table: &mut Lines, changes: &Changes) -> Result<(), Reason>
     requires { T (weights_fit table.old) × IsSmall 45 changes.now }
-    ensures { record { reached = table.new; stop = stop_in result } ≡ after table.old (within (add_all changes.now table.old)) }
+    ensures { record { reached = table.new; stop = stop_of result } ≡ after table.old (within (add_all changes.now table.old)) }
 {
     let lines = table.len();
     let mut known = weigh(table, changes);
@@ -41,7 +41,7 @@ pub fn replace(table: &mut Lines, changes: &Changes) -> Result<(), Reason>
 #[tactic(auto, using(crate::proofs::Uses::uses_add), unfolding(configuration::specs::Configuration::add_all))]
 pub fn add(table: &mut Lines, f: &[u32], amount: i64) -> Result<(), Reason>
     requires { T (weights_fit table.old) × (length f.now ≤ 64) × (mag amount < 2 ^ 42) × T (not (is_zero amount)) }
-    ensures { record { reached = table.new; stop = stop_in result } ≡ after table.old (within (addTo f.now amount table.old)) }
+    ensures { record { reached = table.new; stop = stop_of result } ≡ after table.old (within (addTo f.now amount table.old)) }
 {
     let lines = table.len();
     if f.is_empty() {

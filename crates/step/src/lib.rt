@@ -6,7 +6,7 @@ mod plan;
 
 ghost use Rattle.std.specs.Prelude.{◌≡◌, true, cond, T};
 ghost use Rattle.std.specs.Int.Signed.{le_z};
-ghost use Rattle.refusal.specs.Outcome.{after, stop_in};
+ghost use Rattle.refusal.specs.Outcome.{after, stop_of};
 ghost use Rattle.configuration.specs.Weight.{in_range};
 ghost use Rattle.configuration.specs.Configuration.{some, weight, weights_fit};
 ghost use Rattle.calculus.specs.Calculus.{amount_fits, premises, there, rule_named, mode_tests, step as step_of, operand_tests};
@@ -126,7 +126,7 @@ pub fn step(
     asked: Move,
 ) -> Result<(), Reason>
     requires { T (weights_fit table.old) × IsOperand f.now × IsOperand g.now }
-    ensures { record { reached = table.new; stop = stop_in result }
+    ensures { record { reached = table.new; stop = stop_of result }
         ≡ after table.old (step_of hard.now asked.rule asked.mode f.now g.now asked.amount table.old) }
 {
     // The call says that the lines are in order.

@@ -1,7 +1,7 @@
 -- What is known of a polynomial f among lines in order, by its place and whether it is held: its weight, and what folding it in does.
-use mathlib.Core.Path.{◌≡◌, sym, ap, ◌∙◌}
+use mathlib.Core.Path.{◌≡◌, refl, sym, ap, ◌∙◌}
 use mathlib.Core.Bool.{Bool, true, false, not}
-use mathlib.Core.List.{List, ◌∷◌, ◌++◌}
+use mathlib.Core.List.{List, [], ◌∷◌, ◌++◌}
 use Prim.Native.Nat.{ℕ, suc, ◌+◌, ◌≤◌, ◌<◌}
 use native.Mathlib.Omega.{arith}
 use lib.Dec.{T}
@@ -77,3 +77,9 @@ module _ {L : List Line} (r : IsInOrder L) {f : List ℕ} {at : ℕ} {b : Bool} 
           let d : length (add f w L) ≡ length (take at L) + suc (length (drop at L)) = ap length (add-line z) ∙ length-append (take at L) (line f w ∷ drop at L) in
           let k : length L ≡ length (take at L) + length (drop at L) = rw (take-append-drop at L) at (length-append (take at L) (drop at L)) in
           omega arith
+
+-- the polynomial 0 is not folded in
+pub add_none : (f : List ℕ) (w : ℤ) (L : List Line) → length f ≡ 0 → add f w L ≡ L
+unfolding add
+add_none [] w L e = refl
+add_none (t ∷ f) w L e = let z : ⊥ = omega arith in absurd z

@@ -2,8 +2,7 @@
 // of a function with a `requires` have made the table, and tested the polynomials.
 #![tactic(auto)]
 
-pub mod lines;
-pub mod order;
+mod order;
 
 ghost use Rattle.std.specs.Prelude.{◌≡◌, not, List, [], ◌++◌, ◌∷◌, suc, ◌*◌, ◌≤◌, ◌<◌, ◌^◌, true, false, T, ◌+ℤ◌, length, take, drop, MatchResult};
 ghost use Rattle.std.specs.Int.Signed.{mag};
@@ -14,9 +13,10 @@ ghost use Rattle.table.specs.Rows.{table_at, lines_of, first_key};
 ghost use Rattle.table.specs.Table.{IsKept, terms_at, weight_at, first_degree, Located};
 
 use configuration::weight::is_negative;
-use order::{ahead, insert_entry, key_at, remove_entry, row_at};
+use mask::shift;
+use order::{ahead, key_at, row_at};
 use polynomial::area::write;
-use polynomial::order::{compare, least};
+use polynomial::order::compare;
 use std::cmp::Ordering;
 use std::marker::Model;
 
@@ -30,11 +30,11 @@ pub struct Known {
 /// A configuration as the list of its lines: at most `ROWS`, with 64 places of `TERMS` for the terms of each.
 #[derive(Drop)]
 pub struct Table<const ROWS: usize, const TERMS: usize> {
-    pub lines: usize,
-    pub order: [u64; ROWS],
-    pub terms: [u32; TERMS],
-    pub weights: [i64; ROWS],
-    pub counts: [u32; ROWS],
+    lines: usize,
+    order: [u64; ROWS],
+    terms: [u32; TERMS],
+    weights: [i64; ROWS],
+    counts: [u32; ROWS],
 }
 
 /// The lines of a configuration.
@@ -153,8 +153,8 @@ impl<const ROWS: usize, const TERMS: usize> Table<ROWS, TERMS> {
                     low = middle + 1;
                 }
             }
-            middle = low + least(reach, (high - low) / 2);
-            reach = least(2 * reach + 1, 127);
+            middle = low + reach.min((high - low) / 2);
+            reach = (2 * reach + 1).min(127);
         }
         Err(low)
     }
@@ -198,7 +198,7 @@ impl<const ROWS: usize, const TERMS: usize> Table<ROWS, TERMS> {
     {
         let lines = self.lines;
         let here = row_at(&self.order, lines);
-        insert_entry(&mut self.order, at, lines, 128 * first + (here as u64));
+        shift::insert(&mut self.order, lines, at, 128 * first + (here as u64));
         write(&mut self.terms, 64 * here, f);
         self.weights[here] = weight;
         self.counts[here] = f.len() as u32;
@@ -212,7 +212,8 @@ impl<const ROWS: usize, const TERMS: usize> Table<ROWS, TERMS> {
     {
         let lines = self.lines;
         let here = row_at(&self.order, at);
-        remove_entry(&mut self.order, at, lines, here as u64);
+        shift::remove(&mut self.order, lines, at);
+        self.order[lines - 1] = here as u64;
         self.lines = lines - 1;
     }
 

@@ -1,10 +1,8 @@
 // The order of the lines of a table: an entry for each, with its row and the key of its first term.
-ghost use Rattle.std.specs.Prelude.{◌≡◌, ◌++◌, ◌∷◌, ◌+◌, ◌≤◌, ◌<◌, ◌^◌, length, get_or, take, drop};
-ghost use Rattle.std.proofs.Math.Seq.{slice};
-ghost use Rattle.table.specs.Rows.{row_of, key_in, ahead as leading, IsFalling, in_turn};
+ghost use Rattle.std.specs.Prelude.{◌≡◌, ◌≤◌, ◌<◌, ◌^◌, length, get_or, take};
+ghost use Rattle.table.specs.Rows.{row_of, key_in, ahead as leading, IsFalling};
 
-// The row of the line at a place. It is for this crate, for `replacement`, and for `memory` and `listing`, which read lines one by
-// one.
+// The row of the line at a place.
 pub fn row_at(order: &[u64], at: usize) -> usize
     requires { at < length order.now }
     ensures { result ≡ row_of (get_or order.now at 0) }
@@ -13,7 +11,7 @@ pub fn row_at(order: &[u64], at: usize) -> usize
     (entry % 128) as usize
 }
 
-// The key of the first term of the line at a place. It is for the crates `replacement` and `derivation`.
+// The key of the first term of the line at a place.
 pub fn key_at(order: &[u64], at: usize) -> u64
     requires { at < length order.now }
     ensures { result ≡ key_in (get_or order.now at 0) }
@@ -32,7 +30,7 @@ fn above(entry: u64, key: u64) -> usize
 }
 
 // How many of the first entries have a key above the given one, by halving: the answer lies from `low` to `low + size`. It is
-// for this crate's searches, where keys fall. The loop has no branch but its end, since nothing could guess the others: `low`
+// for searches, where keys fall. The loop has no branch but its end, since nothing could guess the others: `low`
 // grows by a product.
 pub fn ahead(lines: usize, order: &[u64], key: u64) -> usize
     requires { (lines ≤ length order.now) × IsFalling (take lines order.now) × (key < 2 ^ 38) }
@@ -47,36 +45,4 @@ pub fn ahead(lines: usize, order: &[u64], key: u64) -> usize
         size -= half;
     }
     low
-}
-
-// The order of a table that holds no line yet: each row has an entry. It is for the crates that make a table.
-pub fn fresh_order() -> [u64; 128]
-    ensures { result ≡ in_turn 128 0 }
-{
-    let mut order = [0u64; 128];
-    let mut i: usize = 0;
-    while i < 128 {
-        order[i] = i as u64;
-        i += 1;
-    }
-    order
-}
-
-// Puts an entry in at a place; the entries from there to the end move up by one. It is for this crate.
-pub fn insert_entry(order: &mut [u64], at: usize, end: usize, entry: u64)
-    requires { (at ≤ end) × (end < length order.old) }
-    ensures { let is = order.old in order.new ≡ take at is ++ (entry ∷ (slice at end is ++ drop (end + 1) is)) }
-{
-    order.copy_within(at..end, at + 1);
-    order[at] = entry;
-}
-
-// Takes out the entry at a place; those after it, to the end, move down by one, and another comes in behind them. It is for this
-// crate.
-pub fn remove_entry(order: &mut [u64], at: usize, end: usize, entry: u64)
-    requires { (at < end) × (end ≤ length order.old) }
-    ensures { let is = order.old in order.new ≡ take at is ++ (slice (at + 1) end is ++ (entry ∷ drop end is)) }
-{
-    order.copy_within(at + 1..end, at);
-    order[end - 1] = entry;
 }

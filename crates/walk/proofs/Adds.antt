@@ -8,14 +8,7 @@ use lib.Dec.{T, eqb}
 use lib.ListN.{length, take}
 use lib.Seq.{length-take-le}
 use borrow.Author.Tests.{eq-eqb, ne_eqb}
-use Rattle.refusal.specs.Outcome.{accepted, refused, Reached, after, stop_of}
-use Rattle.refusal.specs.OutcomeLaws.{after-accepted, after-refused}
-use Rattle.refusal.specs.declared.Objection.TheVariants.{Nothing, Found}
-use Rattle.refusal.specs.Refusal.{refusal_of}
-use Rattle.refusal.specs.declared.Reason.{Reason}
 use Rattle.configuration.specs.Configuration.{some, is_polynomial}
-use Rattle.walk.specs.Work.{term_added}
-use Rattle.walk.specs.WorkLaws.{term_polynomial}
 
 -- ---- a polynomial of no terms has none
 pub held_none : (k : ℕ) (us : List ℕ) → length us ≡ 64 → eqb k 0 ≡ not (some (take k us))

@@ -2,7 +2,7 @@
 #![tactic(auto)]
 
 ghost use Rattle.std.specs.Prelude.{◌≡◌};
-ghost use Rattle.refusal.specs.Outcome.{after, stop_in};
+ghost use Rattle.refusal.specs.Outcome.{after, stop_of};
 ghost use Rattle.polynomial.specs.Polynomial.{terms_of};
 ghost use Rattle.walk.specs.Held.{IsWork};
 ghost use Rattle.walk.specs.Work.{term_added};
@@ -17,7 +17,7 @@ use refusal::Reason;
 // `problem` and `derivation`, whose work polynomial is always in order.
 pub fn add_term(variables: u32, bytes: &[u8], at: usize, work: &mut Polynomial) -> Result<(), Reason>
     requires { IsWork work.old }
-    ensures sum { let f = terms_of work.old in record { reached = terms_of work.new; stop = stop_in result } ≡ after f (term_added variables bytes.now at f) }
+    ensures sum { let f = terms_of work.old in record { reached = terms_of work.new; stop = stop_of result } ≡ after f (term_added variables bytes.now at f) }
     ensures held { IsWork work.new }
 {
     let Some(mask) = read_mask(bytes, at) else {

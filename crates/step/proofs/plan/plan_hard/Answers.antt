@@ -16,7 +16,7 @@ use Rattle.replacement.specs.Passes.{IsSmall}
 use Rattle.calculus.specs.Calculus.{changes}
 use Rattle.calculus.specs.declared.Rule.TheVariants.{Hard}
 use Rattle.step.proofs.Amounts.{negated_is, IsSmall-changes}
-use Rattle.step.proofs.Plans.{too_long_lem, not_long, Folded, Folded-none, fold_asked, fold_given}
+use Rattle.step.proofs.Plans.{not_long, Folded, Folded-none, fold_asked, fold_given}
 use Rattle.step.proofs.plan.plan_hard.Goals as goal
 use Rattle.step.proofs.plan.plan_hard.Goals.{After-add, After-add-2, After-plus_product-n, Else-n-gt64, Start}
 
@@ -55,11 +55,6 @@ unfolding negated
 two c =
     let s = (goal.at.After-add-2 c).Start in
     fold_given (one (goal.at.After-add-2 c).After-add) (omega arith) (result_is (goal.at.After-add-2 c).Else-n-gt64) (gained s) (small s).1.0 c.add-2.ensures
-
-pub returns-then-n-gt64 : goal.returns-then-n-gt64
-returns-then-n-gt64 c =
-    let s = (goal.at.returns-then-n-gt64 c).Start in
-    too_long_lem c.plus_product-n.result (result s) (told (goal.at.returns-then-n-gt64 c).After-plus_product-n).0 [] (accepted (add_all (ruled s) [])) c.if-n-gt64.true
 
 pub add-requires : goal.add-requires
 unfolding negated

@@ -101,11 +101,6 @@ three c =
     let s = (goal.at.After-add-3 c).Start in
     fold_given (two (goal.at.After-add-3 c).After-add-2) (omega arith) (third (goal.at.After-add-3 c).Else-m-gt64) (gained s) (small s).1.1.0 c.add-3.ensures
 
-pub returns-then-n-gt64 : goal.returns-then-n-gt64
-returns-then-n-gt64 c =
-    let s = (goal.at.returns-then-n-gt64 c).Start in
-    too_long_lem c.product-n.result (product s) (told_product (goal.at.returns-then-n-gt64 c).After-product-n).0 (short (rest s) ∷ []) (accepted (add_all (ruled s) [])) c.if-n-gt64.true
-
 pub returns-then-m-gt64 : goal.returns-then-m-gt64
 returns-then-m-gt64 c =
     let s = (goal.at.returns-then-m-gt64 c).Start in

@@ -17,7 +17,7 @@ use Rattle.replacement.specs.Passes.{IsSmall}
 use Rattle.calculus.specs.Calculus.{changes}
 use Rattle.calculus.specs.declared.Rule.TheVariants.{Sum}
 use Rattle.step.proofs.Amounts.{negated_is, doubled_is, IsSmall-changes}
-use Rattle.step.proofs.Plans.{too_long_lem, not_long, Folded, Folded-none, fold_asked, fold_given}
+use Rattle.step.proofs.Plans.{not_long, Folded, Folded-none, fold_asked, fold_given}
 use Rattle.step.proofs.plan.plan_sum.Goals as goal
 use Rattle.step.proofs.plan.plan_sum.Goals.{After-add, After-add-2, After-add-3, After-add-4, After-product-product_length, After-sum-sum_length, Else-sum_length-gt64, Start}
 
@@ -80,19 +80,6 @@ unfolding negated
 four c =
     let s = (goal.at.After-add-4 c).Start in
     fold_given (three (goal.at.After-add-4 c).After-add-3) (omega arith) (sum_is (goal.at.After-add-4 c).Else-sum_length-gt64) (gained s) (small s).1.1.1.0 c.add-4.ensures
-
-pub returns-then-product_length-gt64 : goal.returns-then-product_length-gt64
-returns-then-product_length-gt64 c =
-    let s = (goal.at.returns-then-product_length-gt64 c).Start in
-    too_long_lem c.product-product_length.result (product s) (told_product (goal.at.returns-then-product_length-gt64 c).After-product-product_length).0 (short (sum s) ∷ [])
-    (accepted (add_all (ruled s) [])) c.if-product_length-gt64.true
-
-pub returns-then-sum_length-gt64 : goal.returns-then-sum_length-gt64
-returns-then-sum_length-gt64 c =
-    let s = (goal.at.returns-then-sum_length-gt64 c).Start in
-    let o = accepted (add_all (ruled s) []) in
-    not_long _ (product s) (told_product (goal.at.returns-then-sum_length-gt64 c).After-product-product_length).0 (short (sum s) ∷ []) o (omega arith)
-    (too_long_lem c.sum-sum_length.result (sum s) (told_sum (goal.at.returns-then-sum_length-gt64 c).After-sum-sum_length).0 [] o c.if-sum_length-gt64.true)
 
 pub add-requires : goal.add-requires
 unfolding negated

@@ -2,7 +2,7 @@
 use mathlib.Core.Path.{◌≡◌, sym}
 use borrow.Author.Rules.{rules}
 use lib.ListN.{length}
-use Rattle.table.proofs.Places.{add_none}
+use Rattle.table.proofs.Located.{add_none}
 use Rattle.table.proofs.Table.add.Goals as goal
 
 pub returns-then-is_empty : goal.returns-then-is_empty

@@ -1,5 +1,6 @@
 use mathlib.Core.Path.{sym, ◌∙◌}
-use Prim.Native.Nat.{◌-◌, ◌<◌}
+use Prim.Native.Nat.{◌+◌, ◌-◌, ◌*◌, ◌/◌, ◌<◌}
+use Rattle.std.proofs.Math.Nat.{min-le_right}
 use native.Mathlib.Omega.{arith}
 use lib.ListN.{length}
 use Rattle.table.specs.Table.{no_line}
@@ -62,7 +63,7 @@ returns-in-Equal g c =
 
 pub loop-low-preserved : goal.loop-low-preserved
 loop-low-preserved g c =
-    ((narrowed g (goal.at.loop-low-preserved g c).Joined-side).0, omega arith, λ h. omega (arith, c.least.ensures), omega (arith, c.least-reach.ensures))
+    ((narrowed g (goal.at.loop-low-preserved g c).Joined-side).0, omega arith, λ h. omega (arith, c.min.ensures, min-le_right c.loop-low.reach ((c.match-side.high - c.match-side.low) / 2)), omega (arith, c.min-reach.ensures, min-le_right (2 * c.loop-low.reach + 1) 127))
 
 pub returns : goal.returns
 returns g c =

@@ -33,7 +33,7 @@ invariant_of-self g c =
     let a = c.args in
     let r = c.row_at-here.result in
     let p = c.requires in
-    rw (c.insert_entry.ensures, c.write.ensures, to_z-of_z c.ranges.weight)
+    rw (c.insert.ensures.whole, c.write.ensures, to_z-of_z c.ranges.weight)
     (put c.self.invariant c.self.view_is a.at r (128 * a.first + r) a.f.now a.weight p.at p.room p.short (λ j. (c.type_inv.f j).fits) c.row_at-here.ensures
     (ap (λ (k : ℕ). 128 * k + r) p.first) p.ordered).1
 
@@ -42,6 +42,6 @@ returns g c =
     let a = c.args in
     let r = c.row_at-here.result in
     let p = c.requires in
-    rw (c.insert_entry.ensures, c.write.ensures, to_z-of_z c.ranges.weight)
+    rw (c.insert.ensures.whole, c.write.ensures, to_z-of_z c.ranges.weight)
     (put c.self.invariant c.self.view_is a.at r (128 * a.first + r) a.f.now a.weight p.at p.room p.short (λ j. (c.type_inv.f j).fits) c.row_at-here.ensures
     (ap (λ (k : ℕ). 128 * k + r) p.first) p.ordered).0
