@@ -121,6 +121,7 @@ impl Checking {
     }
 
     // M: a term is added to the work polynomial.
+    #[tactic(auto, using(crate::proofs::Records::term_refused, crate::proofs::Records::term_accepted))]
     fn on_term(&mut self, bytes: &[u8], at: usize, variables: u32) -> Result<usize, Reason>
         requires { at < length bytes.now }
         ensures does { (L : List Line) → Does (on_term variables bytes.now) at (state_in self.old L) result (state_in self.new L) }
