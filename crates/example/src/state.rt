@@ -144,17 +144,7 @@ impl State {
         let (entries, _) = self.entries.split_at_mut(lent.entries);
         let counts = &self.counts[..lent.counts];
         let places = &self.places[..lent.places];
-        checker::take_step(
-            &mut self.head,
-            terms,
-            entries,
-            counts,
-            places,
-            f,
-            g,
-            asked,
-        )
-        .into()
+        checker::take_step(&mut self.head, terms, entries, counts, places, f, g, asked).into()
     }
 
     // Writes the line of a number at the front of a lent area.

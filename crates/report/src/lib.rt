@@ -130,13 +130,7 @@ fn problem_line(bytes: &[u8]) -> Text<64>
 
 // The listing before, the listing after and the verdict on a derivation's bytes: the lines before stand in a table, and those after
 // it are left there; the hard list stays. It is for `check_report`, which has filed them.
-fn put_report(
-    writer: &mut Writer,
-    steps: &[u8],
-    variables: u32,
-    hard: &HardList,
-    lines: &mut Lines,
-)
+fn put_report(writer: &mut Writer, steps: &[u8], variables: u32, hard: &HardList, lines: &mut Lines)
     requires filed { T (is_hard_list variables hard.now) × T (is_configuration variables lines.old) }
     requires room { writer.old.at + 2449984 ≤ length writer.old.out.now }
     ensures { Wrote writer.old writer.new (report_text steps.now variables hard.now lines.old) }

@@ -15,7 +15,12 @@ use refusal::Reason;
 
 // M: adds the term whose mask stands at a place in the bytes to the work polynomial. A term that is there vanishes. It is for
 // `problem` and `derivation`, whose work polynomial is always in order.
-pub fn add_term(variables: u32, bytes: &[u8], at: usize, work: &mut Polynomial) -> Result<(), Reason>
+pub fn add_term(
+    variables: u32,
+    bytes: &[u8],
+    at: usize,
+    work: &mut Polynomial,
+) -> Result<(), Reason>
     requires { IsWork work.old }
     ensures sum { let f = terms_of work.old in record { reached = terms_of work.new; stop = stop_of result } ≡ after f (term_added variables bytes.now at f) }
     ensures held { IsWork work.new }
