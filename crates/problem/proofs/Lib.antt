@@ -1,4 +1,2 @@
 pub mod Records
-pub mod Next
-pub mod Brought
 pub mod Walks

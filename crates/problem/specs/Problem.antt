@@ -1,18 +1,18 @@
 -- Filing a problem: the records of a filing of document 01, with H of document 02, and what is refused.
 use Rattle.std.specs.Prelude.{Bool, true, false, cond, not, ◌&&◌, List, [], ◌∷◌, ℕ, ◌+◌, ◌^◌, leb, ltb, eqb, ℤ, pos, get_or}
 use Rattle.std.specs.Int.Signed.{le_z}
-use Rattle.refusal.specs.Outcome.{Outcome, accepted, refused, unless, passing, mapped, Told, answered, refused_at}
+use Rattle.refusal.specs.Outcome.{Outcome, accepted, refused, unless, passing, mapped, Told, answered, told}
 use Rattle.polynomial.specs.Polynomial.{ZERO, clause_of}
 use Rattle.configuration.specs.Configuration.{Line, some}
 use Rattle.configuration.specs.Limits.{short}
-use Rattle.refusal.specs.Refusal.{numbered, refusal_of}
+use Rattle.refusal.specs.Refusal.{numbered}
+use Rattle.refusal.specs.declared.Refused.{Refused}
+use Rattle.std.specs.declared.result.Result.{Result}
 use Rattle.record.specs.Letters.{letter_v, letter_m, letter_w, letter_c, letter_h}
 use Rattle.record.specs.Record.{whole, number_at, signed_at}
 use Rattle.walk.specs.Walk.{Progress, past, Reader, read_all, verdict}
 use Rattle.walk.specs.Work.{term_added}
 use Rattle.problem.specs.Item.{Item, weighted, hard, Holding, nothing_held, take_in}
-use Rattle.problem.specs.declared.FilingAnswer.{FilingAnswer}
-use Rattle.problem.specs.declared.FilingAnswer.TheVariants.{Filed, Refused}
 
 -- what the accepted records made: whether V was among them, the variables, the work polynomial, and what is held
 pub record State : Type 0 where
@@ -113,6 +113,5 @@ file_problem s =
     }
 
 -- the paper's words for an answer
-abbrev pub told_of_filing : FilingAnswer → Told (Unit {0})
-told_of_filing Filed = filed
-told_of_filing (Refused k reason) = refused_at k (refusal_of reason)
+abbrev pub told_of_filing : Result (Unit {0}) Refused → Told (Unit {0})
+told_of_filing r = told (λ u. u) r
