@@ -1,5 +1,5 @@
-pub mod Entries
-pub mod Steps
+pub mod Uses
+pub mod Records
 pub mod Letters
 pub mod Degrees
 pub mod Loops
@@ -8,4 +8,3 @@ pub mod RefusedLaws
 pub mod DegreeLaws
 pub mod ContinuedLaws
 pub mod TooLongLaws
-pub mod Uses

@@ -1,13 +1,15 @@
 -- Checking a derivation: the records of document 01's derivation and document 02's hard step, what is refused, and what is confirmed.
 use Rattle.std.specs.Prelude.{Bool, true, false, cond, not, ◌&&◌, List, [], ◌∷◌, ℕ, ◌+◌, max, eqb, ℤ, pos, length, get_or}
 use Rattle.std.specs.Int.Signed.{le_z}
-use Rattle.refusal.specs.Outcome.{Outcome, accepted, refused, unless, mapped, Told, answered, refused_at}
+use Rattle.std.specs.declared.result.Result.{Result}
+use Rattle.refusal.specs.Outcome.{Outcome, accepted, refused, unless, mapped, Told, answered, told}
 use Rattle.term.specs.Term.{degree_of}
 use Rattle.polynomial.specs.Polynomial.{ZERO, ONE}
 use Rattle.configuration.specs.Weight.{limit}
 use Rattle.configuration.specs.Configuration.{Line, polynomial_of, some, weight, any_negative}
 use Rattle.configuration.specs.Made.{Made}
-use Rattle.refusal.specs.Refusal.{numbered, refusal_of}
+use Rattle.refusal.specs.Refusal.{numbered}
+use Rattle.refusal.specs.declared.Refused.{Refused}
 use Rattle.calculus.specs.Calculus.{step}
 use Rattle.calculus.specs.declared.Rule.{Rule}
 use Rattle.calculus.specs.declared.Rule.TheVariants.{Sum, Prod, Hard}
@@ -17,8 +19,7 @@ use Rattle.record.specs.Letters.{letter_n, letter_z, letter_m, letter_k, letter_
 use Rattle.record.specs.Record.{whole, number_at, signed_at}
 use Rattle.walk.specs.Walk.{Progress, begun, past, Reader, read_all, verdict, gathered}
 use Rattle.walk.specs.Work.{term_added}
-use Rattle.derivation.specs.declared.CheckAnswer.{CheckAnswer}
-use Rattle.derivation.specs.declared.CheckAnswer.TheVariants.{Confirmed, Refused}
+use Rattle.derivation.specs.declared.Confirmed.{Confirmed}
 
 -- what the accepted records made: whether N or Z was among them, and the mode; whether f is set, and f (0 where it is not); the work polynomial; the
 -- lines; whether B was among them, and the claim
@@ -184,6 +185,5 @@ check_derivation s n H L =
     }
 
 -- the paper's words for an answer
-abbrev pub told_of_check : CheckAnswer → Told Confirmation
-told_of_check (Confirmed w d) = confirmed w d
-told_of_check (Refused k reason) = refused_at k (refusal_of reason)
+abbrev pub told_of_check : Result Confirmed Refused → Told Confirmation
+told_of_check r = told (λ c. record { claim = c.claim; degree = c.degree }) r

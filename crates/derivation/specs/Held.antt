@@ -1,140 +1,88 @@
--- How code tells records apart, and holds the progress of a check: the lines in a table, f and the work polynomial at the fronts of two areas of 64 terms, the rest by
--- value.
-use Rattle.std.specs.Prelude.{◌≡◌, Bool, true, false, cond, List, ℕ, zero, suc, ◌+◌, ◌/◌, ◌^◌, ◌≤◌, max, T, eqb, ℤ, pos, length, get_or, take}
-use Rattle.refusal.specs.Outcome.{Outcome, Reached, after, stop_of}
-use Rattle.polynomial.specs.Polynomial.{ZERO, IsBelow, RunBelow}
+-- How code tells records apart, and holds a check while it reads: the mode, f, the work polynomial, the claim and the degree; the lines and the hard list lie beside it.
+use Rattle.std.specs.Prelude.{Bool, cond, not, ◌&&◌, List, ℕ, ◌+◌, ◌≤◌, T, eqb, ℤ, pos, Option, Some, None, is_some, unwrap_or, option_map, option_and_then}
+use Rattle.refusal.specs.Refusal.{numbered}
+use Rattle.refusal.specs.Outcome.{Outcome, refused, unless}
+use Rattle.polynomial.specs.Polynomial.{ZERO, IsOrdered, IsBelow, RunBelow, terms_of}
+use Rattle.polynomial.specs.declared.Polynomial.{Polynomial}
 use Rattle.hard.specs.Hard.{hard_at}
-use Rattle.configuration.specs.Configuration.{Every, weights_fit}
-use Rattle.table.specs.Rows.{Table, with_lines, key_in, lines_of, Fits}
+use Rattle.configuration.specs.Configuration.{Line, Every, some, weights_fit}
 use Rattle.calculus.specs.Calculus.{step}
-use Rattle.calculus.specs.declared.Rule.TheVariants.{Sum, Prod}
+use Rattle.calculus.specs.declared.Rule.{Rule}
+use Rattle.calculus.specs.declared.Rule.TheVariants.{Sum, Prod, Hard}
+use Rattle.calculus.specs.declared.Mode.{Mode}
 use Rattle.calculus.specs.declared.Mode.TheVariants.{Plain, Signed}
-use Rattle.step.specs.Stepping.{IsOperand}
-use Rattle.step.specs.declared.Move.{Move}
 use Rattle.record.specs.Letters.{letter_n, letter_z, letter_m, letter_k, letter_s, letter_p, letter_e, letter_b}
-use Rattle.derivation.specs.Derivation.{State, after_step, degree_in}
-use Rattle.derivation.specs.declared.Kind.{Kind}
-use Rattle.derivation.specs.declared.Kind.TheVariants.{Start, Term, Choice, Step, Hard, Claim, Unknown}
-use Rattle.derivation.specs.declared.Progress.{Progress}
-use Rattle.derivation.specs.declared.Recorded.{Recorded}
-use Rattle.walk.specs.Walk as W
+use Rattle.record.specs.Record.{byte_in, amount_in}
+use Rattle.walk.specs.Walk.{Progress}
+use Rattle.derivation.specs.Derivation.{State, going, after_step, degree_in}
+use Rattle.derivation.specs.declared.kind.Kind.{Kind}
+use Rattle.derivation.specs.declared.kind.Kind.TheVariants as K
 
 -- ---- the kind of a letter
-abbrev pub kind_of : ℕ → Kind
+abbrev pub kind_of : ℕ → Option Kind
 kind_of b =
-    cond (eqb b letter_n) (Start Plain)
-    (cond (eqb b letter_z) (Start Signed)
-    (cond (eqb b letter_m) Term
-    (cond (eqb b letter_k) Choice
-    (cond (eqb b letter_s) (Step Sum)
-    (cond (eqb b letter_p) (Step Prod)
-    (cond (eqb b letter_e) Hard
-    (cond (eqb b letter_b) Claim
-    Unknown)))))))
+    cond (eqb b letter_n) (Some (K.Start Plain))
+    (cond (eqb b letter_z) (Some (K.Start Signed))
+    (cond (eqb b letter_m) (Some K.Term)
+    (cond (eqb b letter_k) (Some K.Choice)
+    (cond (eqb b letter_s) (Some (K.Step Sum))
+    (cond (eqb b letter_p) (Some (K.Step Prod))
+    (cond (eqb b letter_e) (Some K.Hard)
+    (cond (eqb b letter_b) (Some K.Claim)
+    None)))))))
 
--- ---- progress, where it stands
--- where the areas are those of t, and the progress tells how many lines there are
-abbrev pub progress_in : Progress → List ℕ → List ℕ → Table → W.Progress State
-progress_in p fs us t = record {
-  at = p.at;
-  records = p.records;
-  state = record {
-    started = p.started;
-    mode = p.mode;
-    chosen = p.chosen;
-    first = take p.first fs;
-    work = take p.work us;
-    lines = lines_of (with_lines p.lines t);
-    closed = p.closed;
-    claim = p.claim;
-  };
+-- ---- what is held beside the lines
+pub record Begun : Type 0 where
+  pub mode : Option Mode
+  pub first : Option (List ℕ)
+  pub work : List ℕ
+  pub claim : Option ℤ
+  pub degree : ℕ
+
+-- what the accepted records made
+abbrev pub state_in : Begun → List Line → State
+state_in b L = record {
+  started = is_some b.mode;
+  mode = unwrap_or b.mode Plain;
+  chosen = is_some b.first;
+  first = unwrap_or b.first ZERO;
+  work = b.work;
+  lines = L;
+  closed = is_some b.claim;
+  claim = unwrap_or b.claim (pos 0);
 }
 
--- what a record leaves: how far the check has come, and what stops it
-abbrev pub left_in : Recorded → List ℕ → List ℕ → Table → Reached (W.Progress State)
-left_in r fs us t = record { reached = progress_in r.progress fs us t; stop = stop_of r.objection }
+-- between the mode and the claim; with no f besides; with a work polynomial of no term besides
+abbrev pub is_going : Begun → Bool
+is_going b = is_some b.mode && not (is_some b.claim)
 
--- the progress before the first record, where the table has so many lines, and this is their degree
-abbrev pub opening_of : ℕ → ℕ → Progress
-opening_of lines degree = record {
-  at = 0;
-  records = 0;
-  started = false;
-  mode = Plain;
-  chosen = false;
-  first = length ZERO;
-  work = length ZERO;
-  lines = lines;
-  closed = false;
-  claim = pos 0;
-  degree = degree;
-}
+abbrev pub is_free : Begun → Bool
+is_free b = is_going b && not (is_some b.first)
 
--- the progress after a record of so many bytes: f, set or not, and the work polynomial have so many terms, the table so many lines, and this is the largest degree so far
-abbrev pub passed : Progress → ℕ → Bool → ℕ → ℕ → ℕ → ℕ → Progress
-passed p size chosen first work lines degree = record {
-  at = p.at + size;
-  records = p.records + 1;
-  started = p.started;
-  mode = p.mode;
-  chosen = chosen;
-  first = first;
-  work = work;
-  lines = lines;
-  closed = p.closed;
-  claim = p.claim;
-  degree = degree;
-}
+abbrev pub is_idle : Begun → Bool
+is_idle b = is_free b && not (some b.work)
 
--- the progress after an accepted claim
-abbrev pub closing : Progress → ℤ → Progress
-closing p w = record {
-  at = p.at + 9;
-  records = p.records + 1;
-  started = p.started;
-  mode = p.mode;
-  chosen = p.chosen;
-  first = p.first;
-  work = p.work;
-  lines = p.lines;
-  closed = true;
-  claim = w;
-  degree = p.degree;
-}
+-- before the first record
+abbrev pub opening : List Line → Begun
+opening L = record { mode = None; first = None; work = ZERO; claim = None; degree = degree_in L }
 
--- the degree of a table's lines, as its order tells it: that of the first term of the first line, whose key the first entry has; 0 where there is no line
-abbrev pub first_degree : ℕ → List ℕ → ℕ
-first_degree zero is = 0
-first_degree (suc k) is = key_in (get_or is 0 0) / 2 ^ 32
+-- a polynomial of the code is one: at most 64 terms, in order
+abbrev pub IsHeld : Polynomial → Type 0
+IsHeld f = (f.count ≤ 64) × IsOrdered (terms_of f)
 
--- ---- what holds before each record
-pub record IsReady (p : Progress) (fs us : List ℕ) (t : Table) : Type 0 where
-  pub fits : Fits 128 t
-  pub first_area : length fs ≡ 64
-  pub first_room : p.first ≤ 64
-  pub area : length us ≡ 64
-  pub room : p.work ≤ 64
-  pub counted : p.records ≤ p.at
-  pub met : degree_in (lines_of t) ≤ p.degree
-
-abbrev pub Held : Progress → List ℕ → List ℕ → Table → Type 0
-Held p fs us t = IsReady p fs us (with_lines p.lines t)
-
--- what a step asks of f, the work polynomial, the lines and the hard list
+-- ---- steps
+-- what a step asks of the lines, f, the work polynomial and the hard list
 abbrev pub IsUsable : List (List ℕ) → State → Type 0
-IsUsable H x = IsOperand x.first × IsOperand x.work × T (weights_fit x.lines) × IsBelow 32 x.first × IsBelow 32 x.work × Every (RunBelow 32) x.lines
-    × ((i : ℕ) → IsBelow 32 (hard_at H i))
+IsUsable H x = T (weights_fit x.lines) × IsBelow 32 x.first × IsBelow 32 x.work × Every (RunBelow 32) x.lines × ((i : ℕ) → IsBelow 32 (hard_at H i))
 
--- a step of f with the work polynomial, as it is asked for in a record of so many bytes
-abbrev pub step_asked : List (List ℕ) → Move → ℕ → W.Progress State → Outcome (W.Progress State)
-step_asked H m size q = let x = q.state in after_step q size (step H m.rule m.mode x.first x.work m.amount x.lines)
+-- the rule and the amount that the body of an E asks for, if it is whole
+abbrev pub hard_ask : List ℕ → ℕ → Option (Rule × ℤ)
+hard_ask s at = option_and_then (λ i. option_map (λ w. (Hard i, w)) (amount_in s (at + 2))) (byte_in s (at + 1))
 
--- ---- a record that code has read leaves what a definition says of it, and what holds before the next, and the largest degree so far counts the lines that are left. f,
--- the work polynomial and the table stand in fs, us and t before it, in gs, vs and u after it.
-abbrev pub Leaves : Outcome (W.Progress State) → Progress → List ℕ → List ℕ → Table → Recorded → List ℕ → List ℕ → Table → Type 0
-Leaves x p fs us t r gs vs u =
-    (left_in r gs vs u ≡ after (progress_in p fs us t) x) × Held r.progress gs vs u
-    × (r.progress.degree ≡ max p.degree (degree_in (lines_of (with_lines r.progress.lines u))))
+-- a step as a record of so many bytes asks for it, if its body is whole
+abbrev pub whole_step : List (List ℕ) → Option (Rule × ℤ) → ℕ → Progress State → Outcome (Progress State)
+whole_step H None size p = refused (numbered 3)
+whole_step H (Some a) size p = let x = p.state in after_step p size (step H a.0 x.mode x.first x.work a.1 x.lines)
 
-abbrev pub Does : (W.Progress State → Outcome (W.Progress State)) → Progress → List ℕ → List ℕ → Table → Recorded → List ℕ → List ℕ → Table → Type 0
-Does on p fs us t r gs vs u = Held p fs us t → Leaves (on (progress_in p fs us t)) p fs us t r gs vs u
+abbrev pub step_asked : List (List ℕ) → Option (Rule × ℤ) → ℕ → Progress State → Outcome (Progress State)
+step_asked H ask size p = unless (going p.state && p.state.chosen) 4 (whole_step H ask size p)

@@ -1,21 +1,18 @@
 // The largest degree met on the way of a check.
-ghost use Rattle.std.specs.Prelude.{◌≡◌, ◌<◌, max, length};
-ghost use Rattle.derivation.specs.Held.{first_degree};
+ghost use Rattle.std.specs.Prelude.{◌≡◌};
+ghost use Rattle.polynomial.specs.Polynomial.{RunBelow};
+ghost use Rattle.configuration.specs.Configuration.{Every};
+ghost use Rattle.derivation.specs.Derivation.{degree_in};
 
-use table::order::key_at;
+use table::Lines;
 
-// The largest degree met so far, once the lines of a table count. Lines and terms stand in order, so that the first term of the
-// first line has the largest degree, and the order of the table has its key. It is for `opening` and `taken` of this crate.
-pub fn largest_degree(met: u32, lines: usize, order: &[u64]) -> u32
-    requires { 0 < length order.now }
-    ensures { result ≡ max met (first_degree lines order.now) }
+// The largest degree in the lines of a table: they and their terms stand in order, so that the first term of the first line has it.
+#[tactic(auto, using(crate::proofs::Degrees::first_degree_lem))]
+pub fn largest_degree(lines: &Lines) -> u32
+    requires { Every (RunBelow 32) lines.now }
+    ensures { result ≡ degree_in lines.now }
 {
-    if lines == 0 {
-        return met;
-    }
-    let degree = (key_at(order, 0) / 4294967296) as u32;
-    if degree < met {
-        return met;
-    }
-    degree
+    // The call says that the lines are in order.
+    let _lines = lines.len();
+    lines.degree()
 }
