@@ -8,19 +8,20 @@ use lib.Dec.{T, leb, eqb, eqb→eq}
 use lib.IntN.{ℤ}
 use lib.ListN.{length, drop}
 use borrow.Author.Tests.{eq-eqb, le-leb, lt-leb}
-use Rattle.std.specs.declared.result.Result.TheVariants.{Ok, Err}
+use Rattle.std.specs.declared.result.Result.TheVariants.{Ok}
 use Rattle.run.specs.BooleanLaws.{of_true, left}
 use Rattle.refusal.specs.Refusal.{numbered, refusal_of}
-use Rattle.refusal.specs.Outcome.{Outcome, accepted, refused, unless, mapped, Reached, nothing, refused_for, after, Told, answered, refused_at}
+use Rattle.refusal.specs.Outcome.{Outcome, accepted, unless, mapped, Reached, nothing, refused_for, after, Told, answered, refused_at}
 use Rattle.refusal.specs.OutcomeLaws.{after-refused, after-accepted, unless_fails, unless_passes}
 use Rattle.refusal.specs.TestsLaws.{nothing_found_by}
 use Rattle.refusal.specs.declared.Reason.{Reason}
-use Rattle.configuration.specs.Configuration.{Line, weights_fit}
-use Rattle.hard.specs.Hard.{HardArea, hard_image, hard_sized}
+use Rattle.configuration.specs.Configuration.{Line, weights_fit, is_configuration}
+use Rattle.configuration.specs.Made.{Made}
+use Rattle.hard.specs.Hard.{is_hard_list, HardArea, hard_image, hard_sized}
 use Rattle.hard.specs.HardLaws.{formed_number}
 use Rattle.memory.specs.Memory.{Memory, back_to_back, image_of}
 use Rattle.memory.specs.Places.{used_by, ClearFrom}
-use Rattle.memory.specs.LayoutLaws.{well_image, well_parts}
+use Rattle.memory.specs.LayoutLaws.{well_image, well_configuration, well_parts}
 use Rattle.memory.specs.MemoryLaws.{back_to_back_lem, well_clear}
 use Rattle.calculus.specs.Calculus.{operand_tests, direct_step}
 use Rattle.calculus.specs.CalculusLaws.{operands_passed}
@@ -29,9 +30,10 @@ use Rattle.calculus.specs.declared.Mode.{Mode}
 use Rattle.step.specs.Stepping.{Finds, IsOperand}
 use Rattle.step.specs.SteppingLaws.{polynomial_operand}
 use Rattle.problem.specs.Problem.{file_problem}
+use Rattle.derivation.specs.Derivation.{Confirmation, check_derivation}
 use Rattle.listing.specs.Listing.{text_of}
-use Rattle.checker.specs.Checker.{Lent, headless, lent_sized, Left, left_of, left_by, filed_with, done, stepped, Written, written_by, fitting, step_in, file_in, write_in}
-use Rattle.checker.specs.CheckerLaws.{formed_memory, formed_hard, step_well, write_well, file_sized, file_unsized}
+use Rattle.checker.specs.Checker.{Lent, headless, lent_sized, Left, left_of, lent_with, left_by, filed_with, done, stepped, Written, written_by, fitting, step_in, check_in, file_in, write_in}
+use Rattle.checker.specs.CheckerLaws.{formed_memory, formed_hard, held_list, step_well, check_well, write_well, file_sized, file_unsized}
 use Rattle.checker.specs.Opened.{IsOpened}
 
 -- ---- the operands of a step
@@ -46,6 +48,22 @@ module _ {x : Lent} {H : List (List ℕ)} {L : List Line} (o : IsOpened x H L) w
 
   pub clear_opened : ClearFrom (used_by x.memory.table) x.memory.terms
   clear_opened = well_clear x.memory (formed_memory back_to_back x o.formed)
+
+  pub list_opened : T (is_hard_list x.memory.variables H)
+  list_opened = subst (λ (K : List (List ℕ)). T (is_hard_list x.memory.variables K)) (sym o.hard) (held_list back_to_back x o.formed)
+
+  pub configuration_opened : T (is_configuration x.memory.variables L)
+  configuration_opened =
+      subst (λ (M : List Line). T (is_configuration x.memory.variables M)) (sym o.lines) (well_configuration back_to_back x.memory (formed_memory back_to_back x o.formed))
+
+  -- ---- a check
+  pub checked_left : (s : List ℕ) (N : List Line) (told : Told Confirmation)
+      → record { variables = x.memory.variables; lines = N; told = told } ≡ check_derivation s x.memory.variables H L
+      → (m : Memory) → m ≡ image_of x.memory.variables N → left_of (record { memory = m; hard = x.hard }) told ≡ check_in s x
+  checked_left s N told made m closed =
+      ap (λ (k : Memory). left_of (record { memory = k; hard = x.hard }) told) closed
+      ∙ ap (λ (y : Made Confirmation). left_of (lent_with back_to_back y.variables y.lines x.hard) y.told) (made ∙ rw (o.hard, o.lines) refl)
+      ∙ sym (check_well back_to_back_lem s x o.formed)
 
   -- ---- a step
   module _ (r : Rule) (d : Mode) (f g : List ℕ) (w : ℤ) where

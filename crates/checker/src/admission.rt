@@ -42,8 +42,9 @@ pub fn open(
     if !well_formed(*head, terms, entries) {
         return Err(refused(Reason::IllFormed));
     }
-    let hard = HardList::open(head.variables, head.hard, counts, places)
-        .ok_or(refused(Reason::IllFormed))?;
+    let hard = HardList::open(head.variables, head.hard, counts, places).ok_or(refused(
+        Reason::IllFormed,
+    ))?;
     memory::open::open(*head, terms, entries, lines);
     Ok(hard)
 }

@@ -3,10 +3,12 @@
 #![tactic(auto)]
 
 mod admission;
+mod checking;
 mod filing;
 mod stepping;
 mod writing;
 
+pub use checking::check_derivation;
 pub use filing::file_problem;
 pub use stepping::take_step;
 pub use writing::write_line;

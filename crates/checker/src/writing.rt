@@ -23,9 +23,7 @@ pub fn write_line(
     ensures { record { area = area.new; told = told_of_line result }
         ≡ write_in number (lent_of head.now terms.now table.now counts.now places.now) area.old }
 {
-    let entries = table
-        .as_array::<128>()
-        .ok_or(refused(Reason::WrongLength))?;
+    let entries = table.as_array::<128>().ok_or(refused(Reason::WrongLength))?;
     let mut lines = Lines::new();
     let hard = open(head, terms, entries, counts, places, &mut lines)?;
     if hard.len() + lines.len() < number {

@@ -1,9 +1,7 @@
 -- `file_problem` meets its contract.
-use mathlib.Core.Path.{◌≡◌, refl, sym, ap, ◌∙◌}
-use mathlib.Core.List.{List}
+use mathlib.Core.Path.{◌≡◌, refl, sym, ◌∙◌}
 use mathlib.Core.Bool.{true}
 use borrow.Author.Rules.{rules}
-use lib.ListN.{length}
 use Rattle.memory.specs.MemoryLaws.{clear_past}
 use Rattle.hard.specs.Hard.{HardArea, hard_image}
 use Rattle.problem.specs.Problem.{told_of_filing}
