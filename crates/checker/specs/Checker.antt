@@ -1,8 +1,9 @@
 -- The open operations on what callers lend. Each is tests of what is lent, an operation of the crates below on the configuration and the hard list that it holds, and what is left: a
 -- refusal of the tests leaves everything as it was and names record 0, else the memory is the image of the lines that the operation makes. The hard list is made by a filing alone.
 use Rattle.std.specs.Prelude.{Bool, ◌&&◌, List, [], ◌∷◌, ◌++◌, ℕ, ◌+◌, leb, ℤ, length, drop}
-use Rattle.refusal.specs.Refusal.{refusal_of}
-use Rattle.refusal.specs.Outcome.{Outcome, accepted, refused, unless, mapped, Test, test, passing, Told, answered, refused_at}
+use Rattle.std.specs.declared.result.Result.{Result}
+use Rattle.refusal.specs.Outcome.{Outcome, accepted, refused, unless, mapped, Test, test, passing, Told, answered, refused_at, told}
+use Rattle.refusal.specs.declared.Refused.{Refused}
 use Rattle.configuration.specs.Configuration.{Line}
 use Rattle.configuration.specs.Made.{Made}
 use Rattle.hard.specs.Hard.{HardArea, hard_of, hard_image, hard_sized, hard_formed}
@@ -16,10 +17,6 @@ use Rattle.problem.specs.Problem.{FilingMade, file_problem}
 use Rattle.derivation.specs.Derivation.{Confirmation, check_derivation}
 use Rattle.listing.specs.Listing.{text_of, listing_of}
 use Rattle.listing.specs.Code.{code_of}
-use Rattle.checker.specs.declared.StepAnswer.{StepAnswer}
-use Rattle.checker.specs.declared.LineAnswer.{LineAnswer}
-use Rattle.checker.specs.declared.StepAnswer.TheVariants as S
-use Rattle.checker.specs.declared.LineAnswer.TheVariants as L
 
 -- ---- all that is lent: the memory of a configuration, and beside it the area of the hard list
 pub record Lent : Type 0 where
@@ -140,10 +137,8 @@ abbrev pub code_in : Lent → ℕ
 code_in x = code_of x.memory.variables (hard_of x.hard) (standing_of x.memory)
 
 -- ---- the paper's words for the answers
-abbrev pub told_of_step : StepAnswer → Told (Unit {0})
-told_of_step S.Taken = done
-told_of_step (S.Refused k reason) = refused_at k (refusal_of reason)
+abbrev pub told_of_step : Result (Unit {0}) Refused → Told (Unit {0})
+told_of_step r = told (λ _. tt) r
 
-abbrev pub told_of_line : LineAnswer → Told ℕ
-told_of_line (L.Written n) = answered n
-told_of_line (L.Refused k reason) = refused_at k (refusal_of reason)
+abbrev pub told_of_line : Result ℕ Refused → Told ℕ
+told_of_line r = told (λ n. n) r

@@ -10,3 +10,4 @@ pub mod SumFromProds
 pub mod HowFarOver
 pub mod LeftForm
 pub mod DeskTable
+pub mod Opened

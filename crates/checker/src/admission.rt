@@ -1,48 +1,50 @@
-// The tests of what is lent: of its lengths, which every operation makes, and of its form, which all but a filing make.
-ghost use Rattle.std.specs.Prelude.{◌≡◌, ◌&&◌, eqb, length};
-ghost use Rattle.refusal.specs.Outcome.{accepted, objected};
-ghost use Rattle.memory.specs.Memory.{back_to_back};
-ghost use Rattle.checker.specs.Checker.{lent_of, admitted};
+// The tests of what is lent: of its lengths, which every operation makes, and of its form, which all but a filing make; and what
+// it holds. A refusal names record 0.
+ghost use Rattle.std.specs.Prelude.{◌≡◌, [], ◌&&◌, eqb, length, MatchResult};
+ghost use Rattle.checker.specs.Checker.{lent_of};
+ghost use Rattle.checker.specs.Opened.{IsOpened, IsUnfit};
 
-use hard::form::hard_formed;
+use hard::HardList;
 use memory::form::well_formed;
 use memory::{Entry, Head};
-use refusal::{Objection, Reason};
+use refusal::{Reason, Refused};
+use table::Lines;
 
-// Whether the areas beside the line table have their lengths.
-#[tactic(auto, using(crate::proofs::Uses::uses_admission_lengths_fit))]
-pub fn lengths_fit(terms: &[u32], counts: &[u32], places: &[u32]) -> bool
-    ensures { result ≡ (eqb (length terms.now) 8192
-        && (eqb (length counts.now) 16 && eqb (length places.now) 1024)) }
+pub fn refused(reason: Reason) -> Refused
+    ensures { result ≡ record { «record» = 0; reason = reason } }
 {
-    if terms.len() != 8192 {
-        return false;
-    }
-    if counts.len() != 16 {
-        return false;
-    }
-    places.len() == 1024
+    Refused { record: 0, reason }
 }
 
-// What is found against what is lent: the lengths of its areas, then their form.
-pub fn object(
-    head: Head,
+// Whether the areas beside the line table have their lengths.
+pub fn lengths_fit(terms: &[u32], counts: &[u32], places: &[u32]) -> bool
+    ensures { result ≡ (eqb (length terms.now) 8192 && (eqb (length counts.now) 16 && eqb (length places.now) 1024)) }
+{
+    terms.len() == 8192 && counts.len() == 16 && places.len() == 1024
+}
+
+// Reads the lines of what is lent into a table that holds none yet, and answers the hard list.
+pub fn open(
+    head: &Head,
     terms: &[u32],
-    entries: [Entry; 128],
+    entries: &[Entry; 128],
     counts: &[u32],
     places: &[u32],
-) -> Objection
-    ensures { let x = lent_of head terms.now entries counts.now places.now in
-        objected result (accepted (tt {0})) ≡ admitted back_to_back x (accepted (tt {0})) }
+    lines: &mut Lines,
+) -> Result<HardList, Refused>
+    requires { lines.old ≡ [] }
+    ensures { let x = lent_of head.now terms.now entries.now counts.now places.now in
+        MatchResult result (λ hard. IsOpened x hard lines.new) (IsUnfit x) }
 {
     if !lengths_fit(terms, counts, places) {
-        return Objection::Found(Reason::WrongLength);
+        return Err(refused(Reason::WrongLength));
     }
-    if !well_formed(head, terms, entries) {
-        return Objection::Found(Reason::IllFormed);
+    if !well_formed(*head, terms, entries) {
+        return Err(refused(Reason::IllFormed));
     }
-    if !hard_formed(head.variables, head.hard, counts, places) {
-        return Objection::Found(Reason::IllFormed);
-    }
-    Objection::Nothing
+    let hard = HardList::open(head.variables, head.hard, counts, places).ok_or(refused(
+        Reason::IllFormed,
+    ))?;
+    memory::open::open(*head, terms, entries, lines);
+    Ok(hard)
 }
