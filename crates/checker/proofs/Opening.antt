@@ -13,7 +13,7 @@ use Rattle.run.specs.BooleanLaws.{of_true, left}
 use Rattle.refusal.specs.Refusal.{numbered, refusal_of}
 use Rattle.refusal.specs.Outcome.{Outcome, accepted, unless, mapped, Reached, nothing, refused_for, after, Told, answered, refused_at}
 use Rattle.refusal.specs.OutcomeLaws.{after-refused, after-accepted, unless_fails, unless_passes}
-use Rattle.refusal.specs.TestsLaws.{nothing_found_by}
+use Rattle.refusal.specs.TestsLaws.{nothing_found}
 use Rattle.refusal.specs.declared.Reason.{Reason}
 use Rattle.configuration.specs.Configuration.{Line, weights_fit, is_configuration}
 use Rattle.configuration.specs.Made.{Made}
@@ -39,7 +39,7 @@ use Rattle.checker.specs.Opened.{IsOpened}
 -- ---- the operands of a step
 pub operands_fit : (n : ℕ) (f g : List ℕ) → Finds (operand_tests n f g) (Ok tt) → IsOperand f × IsOperand g
 operands_fit n f g found =
-    let p = operands_passed n f g (nothing_found_by {A = List Line} [] (operand_tests n f g) (Ok tt) found refl) in
+    let p = operands_passed n f g (nothing_found {A = List Line} [] (operand_tests n f g) (Ok tt) found refl) in
     (polynomial_operand n f p.0, polynomial_operand n g p.1)
 
 module _ {x : Lent} {H : List (List ℕ)} {L : List Line} (o : IsOpened x H L) where

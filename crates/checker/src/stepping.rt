@@ -1,6 +1,6 @@
 // Taking one step.
 ghost use Rattle.std.specs.Prelude.{◌≡◌, T};
-ghost use Rattle.refusal.specs.Outcome.{after, stop_in};
+ghost use Rattle.refusal.specs.Outcome.{after, stop_of};
 ghost use Rattle.configuration.specs.Configuration.{weights_fit};
 ghost use Rattle.calculus.specs.Calculus.{direct_step};
 ghost use Rattle.checker.specs.Checker.{lent_of, left_of, step_in, told_of_step};
@@ -25,7 +25,7 @@ fn direct_step(
     asked: Move,
 ) -> Result<(), Reason>
     requires { T (weights_fit lines.old) }
-    ensures { record { reached = lines.new; stop = stop_in result }
+    ensures { record { reached = lines.new; stop = stop_of result }
         ≡ after lines.old (direct_step hard.now asked.rule asked.mode f.now g.now asked.amount variables lines.old) }
 {
     misfit(variables, f, g)?;
