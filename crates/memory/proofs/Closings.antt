@@ -1,11 +1,11 @@
 -- The steps of writing lines back, over plain lists: the terms and the entry of one line more, and what lies behind the last.
 use mathlib.Core.Path.{◌≡◌, refl, sym, ap, ap₂, ◌∙◌}
 use mathlib.Core.List.{List, [], ◌∷◌, ◌++◌, append_assoc, append-nil}
-use Prim.Native.Nat.{ℕ, suc, ◌+◌, ◌-◌, ◌*◌, ◌≤◌, ◌<◌}
+use Prim.Native.Nat.{ℕ, suc, ◌+◌, ◌-◌, ◌≤◌, ◌<◌}
 use native.Mathlib.Numerals.{add-one}
 use native.Mathlib.Omega.{arith}
 use lib.IntN.{ℤ}
-use lib.ListN.{length, get_or, set, take, drop, replicate, length-append, length-drop, length-replicate, length-take, replicate-append-replicate}
+use lib.ListN.{length, get_or, set, take, drop, replicate, length-append, length-drop, length-replicate, replicate-append-replicate}
 use lib.Seq.{append_snoc, take_at, drop_at, take-suc, drop-drop, set_at, length-take-le}
 use Rattle.configuration.specs.Configuration.{Line, line}
 use Rattle.configuration.specs.LineLaws.{IsShort, Every-take}

@@ -7,8 +7,8 @@ use native.Mathlib.Nat.{le_of_suc-le-suc, not-suc-le-zero}
 use native.Mathlib.Numerals.{add-one}
 use native.Mathlib.Omega.{arith}
 use lib.Dec.{T}
-use lib.IntN.{ℤ, pos}
-use lib.ListN.{length, get_or, take, drop, length-drop, drop_of_length-le}
+use lib.IntN.{ℤ}
+use lib.ListN.{length, get_or, take, drop, length-drop}
 use lib.Seq.{drop-cons, take_all, length-take-le}
 use Rattle.std.specs.Bool.{MatchBool}
 use Rattle.std.specs.List.{AllWithin, HoldsAt}
@@ -18,7 +18,7 @@ use Rattle.configuration.specs.Weight.{in_range, is_zero}
 use Rattle.configuration.specs.Configuration.{Line, line, some, by_order, is_polynomial, line_fits, lines_fit, weights_fit}
 use Rattle.memory.specs.declared.Entry.{Entry}
 use Rattle.memory.specs.Memory.{Memory, read_lines, unused, standing_of, well_formed}
-use Rattle.memory.specs.MemoryLaws.{unused_is, used_take, used_next, length_read, Formed, well_formed_lem, Formed-well}
+use Rattle.memory.specs.MemoryLaws.{unused_is, Formed, well_formed_lem, Formed-well}
 use Rattle.configuration.specs.Area.{zeros}
 use Rattle.memory.specs.Places.{used_by, is_unused, all_unused}
 

@@ -1,6 +1,5 @@
 -- Lines that stand in order and are short: so do those at the front, and the one behind them.
-use Rattle.std.proofs.Common.{◌≡◌, ◌≤◌, List, [], ◌∷◌, ◌++◌, ℕ, ℤ, length}
-use Rattle.std.specs.declared.cmp.Ordering.TheVariants.{Less}
+use Rattle.std.proofs.Common.{◌≤◌, List, [], ◌∷◌, ◌++◌, ℕ, ℤ, length}
 use Rattle.configuration.specs.Configuration.{Line, line, IsBehind, IsInOrder}
 use Rattle.configuration.specs.LineLaws.{IsShort}
 

@@ -1,14 +1,13 @@
 -- Whether a polynomial at the front of an area has a term.
-use mathlib.Core.Path.{◌≡◌, sym, ap, ◌∙◌}
+use mathlib.Core.Path.{◌≡◌}
 use mathlib.Core.Bool.{not}
 use mathlib.Core.List.{List, [], ◌∷◌}
-use Prim.Native.Nat.{ℕ, zero, suc, ◌≤◌}
+use Prim.Native.Nat.{ℕ, zero, suc}
 use native.Mathlib.Omega.{arith}
-use lib.Dec.{T, eqb}
+use lib.Dec.{eqb}
 use lib.ListN.{length, take}
-use lib.Seq.{length-take-le}
 use borrow.Author.Tests.{eq-eqb, ne_eqb}
-use Rattle.configuration.specs.Configuration.{some, is_polynomial}
+use Rattle.configuration.specs.Configuration.{some}
 
 -- ---- a polynomial of no terms has none
 pub held_none : (k : ℕ) (us : List ℕ) → length us ≡ 64 → eqb k 0 ≡ not (some (take k us))

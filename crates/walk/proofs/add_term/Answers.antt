@@ -1,5 +1,5 @@
 -- The body, the variables and the length of the sum are tested in the definition's order.
-use Rattle.std.proofs.Common.{◌≡◌, sym, ◌∙◌, true, ◌^◌, ◌≤◌, ◌<◌, rules, length, List, [], ◌∷◌, subst}
+use Rattle.std.proofs.Common.{◌≡◌, sym, ◌∙◌, true, ◌^◌, ◌≤◌, ◌<◌, [], ◌∷◌, subst}
 use Rattle.std.specs.Prelude.{ltb}
 use Rattle.std.specs.declared.option.Option.TheVariants.{Some}
 use Rattle.record.specs.Record.{mask_in}

@@ -2,7 +2,7 @@ use Rattle.std.proofs.Common.{◌≡◌, refl, sym, ap, ap₂, ◌∙◌, rules,
 use Rattle.std.proofs.Math.Seq.{drop-drop}
 use Rattle.configuration.specs.Configuration.{Line, line}
 use Rattle.configuration.proofs.Weights.{read_back}
-use Rattle.table.specs.Table.{terms_at, weight_at, no_line}
+use Rattle.table.specs.Table.{no_line}
 use Rattle.table.specs.TableLaws.{line_is}
 use Rattle.memory.specs.declared.Entry.{Entry}
 use Rattle.memory.specs.Memory.{Memory, all_terms, entries_of, unused, image_of}

@@ -1,5 +1,5 @@
 -- Each test is one of those that the definition joins.
-use Rattle.std.proofs.Common.{◌≡◌, sym, ap, ◌∙◌, Bool, ◌&&◌, w64, length, arith, ℕ, ◌==◌, true, false, true≢false, eqb→eq}
+use Rattle.std.proofs.Common.{◌≡◌, sym, ap, ◌∙◌, Bool, ◌&&◌, w64, ℕ, ◌==◌, true, false, true≢false, eqb→eq}
 use Rattle.std.proofs.lemmas.Int.{to_z-of_z}
 use Rattle.run.specs.BooleanLaws.{of_true}
 use Rattle.configuration.specs.Weight.{in_range}

@@ -1,10 +1,8 @@
-use Rattle.std.proofs.Common.{◌≡◌, rules, arith, ap, ap₂, ◌∙◌, sym, ◌-◌, ◌+◌, ◌&&◌, length, List, [], ◌∷◌, ℕ, ℤ, take, drop, get_or, drop_of_length-le, w64}
-use Rattle.std.proofs.lemmas.Int.{to_z-of_z}
+use Rattle.std.proofs.Common.{◌≡◌, rules, arith, ap, ap₂, ◌∙◌, sym, ◌-◌, ◌+◌, ◌&&◌, length, List, [], ◌∷◌, ℕ, ℤ, take, drop, get_or}
 use Rattle.configuration.specs.Weight.{in_range}
-use Rattle.configuration.specs.Configuration.{Line, line, line_fits}
+use Rattle.configuration.specs.Configuration.{line, line_fits}
 use Rattle.configuration.proofs.Weights.{read_back}
 use Rattle.memory.specs.Memory.{read_lines, unused}
-use Rattle.memory.specs.Places.{used_by}
 use Rattle.memory.proofs.Forms.{leads, chained, chained_none, both_fit, used_left, next_line, line_misfit, out_of_order, line_passed}
 use Rattle.memory.proofs.form.lines_fit.Goals as goal
 use Rattle.memory.proofs.form.lines_fit.Goals.{After-line_fits, After-stands_before, In-loop-entry}

@@ -1,6 +1,5 @@
 -- What is left to test: the lines that the other records count, behind the last polynomial.
-use Rattle.std.proofs.Common.{◌≡◌, ◌-◌, ◌≤◌, ◌&&◌, length, drop}
-use Rattle.configuration.specs.Configuration.{lines_fit, weights_fit}
+use Rattle.std.proofs.Common.{◌≡◌, ◌-◌, ◌≤◌, length, drop}
 use Rattle.memory.specs.Memory.{read_lines}
 use Rattle.memory.specs.Places.{used_by}
 use Rattle.memory.proofs.Forms.{both_fit, chained}

@@ -1,4 +1,4 @@
-use Rattle.std.proofs.Common.{◌≡◌, rules, arith, ap, ap₂, sym, subst, ◌∙◌, ◌-◌, ◌+◌, ◌++◌, List, [], ◌∷◌, ℕ, ℤ, length, take, drop, get_or, length-append, append-nil, w64, to_z, of_z}
+use Rattle.std.proofs.Common.{◌≡◌, rules, arith, ap, ap₂, sym, subst, ◌∙◌, ◌-◌, ◌+◌, ◌++◌, List, ◌∷◌, ℕ, ℤ, length, take, drop, get_or, length-append, append-nil, w64, to_z, of_z}
 use Rattle.std.proofs.Math.Seq.{append_snoc}
 use Rattle.configuration.specs.Configuration.{Line, line, IsInOrder}
 use Rattle.configuration.specs.ConfigurationLaws.{fit_ordered}
@@ -7,7 +7,6 @@ use Rattle.configuration.proofs.Weights.{read_back}
 use Rattle.memory.specs.declared.Entry.{Entry}
 use Rattle.memory.specs.Memory.{Memory, memory_of, read_lines, unused}
 use Rattle.memory.specs.MemoryLaws.{used_take, length_read, Formed, well_formed_lem}
-use Rattle.memory.specs.Places.{used_by}
 use Rattle.memory.proofs.Forms.{used_left, next_line, read_first}
 use Rattle.memory.proofs.Openings.{ordered_front, short_next}
 use Rattle.memory.proofs.open.open.Goals as goal
