@@ -42,9 +42,9 @@ pub fn open(
     if !well_formed(*head, terms, entries) {
         return Err(refused(Reason::IllFormed));
     }
-    let hard = HardList::open(head.variables, head.hard, counts, places).ok_or(refused(
-        Reason::IllFormed,
-    ))?;
+    let Some(hard) = HardList::open(head.variables, head.hard, counts, places) else {
+        return Err(refused(Reason::IllFormed));
+    };
     memory::open::open(*head, terms, entries, lines);
     Ok(hard)
 }

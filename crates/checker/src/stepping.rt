@@ -52,9 +52,7 @@ pub fn take_step(
         .ok_or(refused(Reason::WrongLength))?;
     let mut lines = Lines::new();
     let hard = open(head, terms, entries, counts, places, &mut lines)?;
-    if let Err(reason) = direct_step(head.variables, &mut lines, &hard, f, g, asked) {
-        return Err(refused(reason));
-    }
+    direct_step(head.variables, &mut lines, &hard, f, g, asked).map_err(refused)?;
     let used = used_by(entries);
     close(&lines, used, terms, entries);
     head.lines = lines.len() as u32;

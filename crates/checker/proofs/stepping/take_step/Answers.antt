@@ -1,13 +1,11 @@
 -- `take_step` meets its contract.
 use mathlib.Core.Path.{◌≡◌, ap, ◌∙◌}
 use mathlib.Core.List.{List}
+use Rattle.std.proofs.lemmas.Result.{err_from_is_err_and}
 use borrow.Author.Rules.{rules}
-use Rattle.refusal.specs.Refusal.{refusal_of}
-use Rattle.refusal.specs.Outcome.{refused_at}
-use Rattle.refusal.specs.declared.Refused.{Refused}
 use Rattle.memory.specs.declared.Entry.{Entry}
-use Rattle.checker.specs.Checker.{Lent, lent_of, Left, left_of, step_in}
-use Rattle.checker.proofs.Opening.{clear_opened, refused_left, taken_left}
+use Rattle.checker.specs.Checker.{Lent, lent_of, Left, step_in}
+use Rattle.checker.proofs.Opening.{told_ok, told_err, clear_opened, refused_left, taken_left}
 use Rattle.checker.proofs.stepping.take_step.Goals as goal
 use Rattle.checker.proofs.stepping.take_step.Goals.{Start, After-direct_step}
 
@@ -21,13 +19,16 @@ answer s t = let a = s.args in step_in a.asked.rule a.asked.mode a.f.now a.g.now
 same : (c : goal.After-direct_step) → c.in_ok-entries.entries.now ≡ c.args.table.now
 same c = search rules
 
-pub returns-in-Err : goal.returns-in-Err
-returns-in-Err c =
+pub returns-in_err-map_err : goal.returns-in_err-map_err
+returns-in_err-map_err c =
     let a = c.args in
-    let s = (goal.at.returns-in-Err c).Start in
-    ap (λ (r : Refused). left_of (lent s c.in_ok-entries.entries.now) (refused_at r.record (refusal_of r.reason))) c.refused-in-Err.ensures
-    ∙ refused_left c.in_ok-hard.ensures a.asked.rule a.asked.mode a.f.now a.g.now a.asked.amount c.in-Err.reason _ c.in-Err.ensures
-    ∙ ap (answer s) (same (goal.at.returns-in-Err c).After-direct_step)
+    let s = (goal.at.returns-in_err-map_err c).Start in
+    let p = err_from_is_err_and c.from_residual-in_err-map_err.result c.from_residual-in_err-map_err.ensures.1 in
+    let q = told_err _ c.direct_step.result c.map_err.result c.map_err.ensures.cases c.in_err-map_err.field-0.0 c.in_err-map_err.was in
+    let d = c.in_err-map_err.field-0.0 in
+    let told : (d.record ≡ 0) × (d.reason ≡ q.0) = search (rules, q.2) in
+    rw (p.1, p.2, told.0, told.1)
+    (refused_left c.in_ok-hard.ensures a.asked.rule a.asked.mode a.f.now a.g.now a.asked.amount q.0 _ (rw q.1 at c.direct_step.ensures) ∙ ap (answer s) (same (goal.at.returns-in_err-map_err c).After-direct_step))
 
 pub close-requires : goal.close-requires
 close-requires c = rw c.used_by-used.ensures (clear_opened c.in_ok-hard.ensures)
@@ -37,5 +38,5 @@ returns c =
     let a = c.args in
     let s = (goal.at.returns c).Start in
     rw c.len.ensures.lines
-    (taken_left c.in_ok-hard.ensures a.asked.rule a.asked.mode a.f.now a.g.now a.asked.amount _ _ c.in_default.ensures (c.close.ensures a.head.now.variables a.head.now.hard)
+    (taken_left c.in_ok-hard.ensures a.asked.rule a.asked.mode a.f.now a.g.now a.asked.amount _ _ (rw (told_ok _ c.direct_step.result c.map_err.result c.map_err.ensures.cases c.in_ok-map_err.field-0 c.in_ok-map_err.was) at c.direct_step.ensures) (c.close.ensures a.head.now.variables a.head.now.hard)
     ∙ ap (answer s) (same (goal.at.returns c).After-direct_step))
