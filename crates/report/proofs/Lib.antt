@@ -1,4 +1,2 @@
 pub mod Outputs
-pub mod Reports
 pub mod Texts
-pub mod Files

@@ -116,6 +116,7 @@ fn code_line(code: u64) -> Text<64>
 }
 
 // What there is to tell of a problem's bytes: the line of its code, or of what was refused.
+#[tactic(auto, unfolding(crate::specs::Report::code_output))]
 fn problem_line(bytes: &[u8]) -> Text<64>
     ensures { result ≡ code_output bytes.now }
 {
@@ -130,8 +131,10 @@ fn problem_line(bytes: &[u8]) -> Text<64>
 
 // The listing before, the listing after and the verdict on a derivation's bytes: the lines before stand in a table, and those after
 // it are left there; the hard list stays. It is for `check_report`, which has filed them.
+#[tactic(auto, using(crate::proofs::Texts::verdict_short))]
 fn put_report(writer: &mut Writer, steps: &[u8], variables: u32, hard: &HardList, lines: &mut Lines)
-    requires filed { T (is_hard_list variables hard.now) × T (is_configuration variables lines.old) }
+    requires hard { T (is_hard_list variables hard.now) }
+    requires lines { T (is_configuration variables lines.old) }
     requires room { writer.old.at + 2449984 ≤ length writer.old.out.now }
     ensures { Wrote writer.old writer.new (report_text steps.now variables hard.now lines.old) }
 {
@@ -143,6 +146,7 @@ fn put_report(writer: &mut Writer, steps: &[u8], variables: u32, hard: &HardList
 
 // What there is to tell of a problem's and a derivation's bytes: the listing before, the listing after, and the verdict; or what was
 // refused of the problem.
+#[tactic(auto, using(crate::proofs::Texts::filing_short), unfolding(crate::specs::Report::check_output))]
 fn check_report(writer: &mut Writer, bytes: &[u8], steps: &[u8])
     requires { writer.old.at + 2449984 ≤ length writer.old.out.now }
     ensures { Wrote writer.old writer.new (check_output bytes.now steps.now) }

@@ -1,15 +1,7 @@
 -- `put_report` meets its contract: the listing before, the listing after and the verdict, one behind the other.
-use native.Mathlib.Omega.{arith}
 use Rattle.listing.proofs.Chains.{wrote_as, wrote_then}
 use Rattle.report.proofs.Outputs.{report_parts}
-use Rattle.report.proofs.Texts.{verdict_short}
 use Rattle.report.proofs.put_report.Goals as goal
-
-pub put_verdict-requires : goal.put_verdict-requires
-put_verdict-requires c =
-    let p = c.put_listing.ensures in
-    let q = c.put_listing-2.ensures in
-    omega (arith, c.requires.room, p.room, p.text.long, q.room, q.text.long, verdict_short c.check_derivation-answer.result)
 
 pub returns : goal.returns
 returns c =
