@@ -10,6 +10,7 @@ use memory::{Entry, Head};
 use refusal::{Reason, Refused};
 use table::Lines;
 
+// A refusal of what is lent: no record is at fault.
 pub fn refused(reason: Reason) -> Refused
     ensures { result ≡ record { «record» = 0; reason = reason } }
 {

@@ -242,7 +242,8 @@ impl Checking {
         })
     }
 
-    // Reads the records one after the other, up to the first that is refused. Where the bytes end B must have come.
+    // Reads the records one after the other, up to the first that is refused. Where the bytes end B must have come. Records differ in
+    // size, so a place goes through the bytes.
     pub fn read(
         &mut self,
         bytes: &[u8],

@@ -76,6 +76,7 @@ impl State {
         lent: Lengths::DUE,
     };
 
+    // Changes what the next calls are lent; a place beyond an area changes nothing.
     pub fn change(&mut self, change: Change) {
         match change {
             Change::Areas { head, number } => {

@@ -31,6 +31,7 @@ impl Model for HardList {
 }
 
 impl HardList {
+    /// No polynomials.
     #[tactic(auto, unfolding(crate::specs::Hard::laid_hard, crate::specs::Hard::read_hard))]
     pub fn new() -> HardList
         ensures { result ≡ [] }
@@ -60,6 +61,7 @@ impl HardList {
         })
     }
 
+    /// How many polynomials there are.
     #[tactic(auto, using(crate::specs::HardLaws::all_read))]
     pub fn len(&self) -> usize
         ensures number { result ≡ length self.now }
@@ -81,6 +83,7 @@ impl HardList {
         &places[start..end]
     }
 
+    /// Puts a polynomial behind the others. It is for `problem`, which has tested that there is room.
     pub fn push(&mut self, f: &[u32])
         requires { (length self.old < 16) × (length f.now ≤ 64) }
         ensures { self.new ≡ self.old ++ f.now ∷ [] }

@@ -1,9 +1,9 @@
 // A writer of text: it puts each text behind the one before, in an area of bytes that is lent. It is for this crate and for those
 // above, which have made room.
-ghost use Rattle.std.specs.Prelude.{◌≡◌, [], ◌∷◌, ◌+◌, ◌≤◌, length, take};
+ghost use Rattle.std.specs.Prelude.{◌≡◌, [], ◌∷◌, ◌≤◌, length, take};
 ghost use Rattle.listing.specs.Listing.{decimal, weight_text, name_text, names_text, term_text, terms_text};
 ghost use Rattle.listing.specs.Writer.{HasRoom, Wrote};
-ghost use Rattle.listing.specs.Writing.{overwritten, starred};
+ghost use Rattle.listing.specs.Writing.{starred};
 
 use std::marker::Model;
 
@@ -25,6 +25,7 @@ impl<'a> Writer<'a> {
         self.at = end;
     }
 
+    // One byte.
     pub fn put_byte(&mut self, byte: u8)
         requires { HasRoom self.old (byte ∷ []) }
         ensures { Wrote self.old self.new (byte ∷ []) }
@@ -131,6 +132,7 @@ impl<const N: usize> Model for Text<N> {
 }
 
 impl<const N: usize> Text<N> {
+    // The first bytes of an area.
     pub fn new(bytes: [u8; N], size: usize) -> Self
         requires { size ≤ N }
         ensures { result ≡ take size bytes.entry }
@@ -151,21 +153,11 @@ impl<const N: usize> Text<N> {
         }
     }
 
+    // The text, for a reader.
     pub fn as_slice(&self) -> &[u8]
         ensures text { result.now ≡ self.now }
         ensures room { length self.now ≤ N }
     {
         &self.bytes[..self.size]
     }
-}
-
-// A text that is there, for callers that hold an area and a place: it answers the place behind.
-pub fn put_bytes(out: &mut [u8], at: usize, text: &[u8]) -> usize
-    requires { at + length text.now ≤ length out.old }
-    ensures end { result ≡ at + length text.now }
-    ensures text { out.new ≡ overwritten out.old at text.now }
-{
-    let mut writer = Writer { out, at };
-    writer.put_bytes(text);
-    writer.at
 }

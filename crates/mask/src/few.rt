@@ -9,7 +9,8 @@ ghost use Rattle.mask.specs.Few.{united, variables_of, shared, common_of, varyin
 
 use crate::subsets;
 
-// The variables of a run of terms, joined to those of a mask.
+// The variables of a run of terms, joined to those of a mask. `shared_with` folds in the same way, by another operation: each has the
+// definition that the crate names.
 fn variables_with(mask: u32, terms: &[u32]) -> u32
     ensures { result ≡ united mask terms.now }
 {

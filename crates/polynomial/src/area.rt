@@ -1,7 +1,7 @@
 // A part of an area of numbers.
 ghost use Rattle.std.specs.Prelude.{◌≡◌, ◌++◌, ◌+◌, ◌≤◌, length, take, drop};
 
-// Writes a run of numbers into an area from a place on. It is for this crate, `table`, `memory` and `derivation`, whose areas have room.
+// Writes a run of numbers into an area from a place on. It is for this crate, `table` and `memory`, whose areas have room.
 pub fn write(area: &mut [u32], at: usize, run: &[u32])
     requires { at + length run.now ≤ length area.old }
     ensures { let l = area.old in let s = run.now in area.new ≡ take at l ++ (s ++ drop (at + length s) l) }

@@ -48,6 +48,7 @@ impl Filing {
     ghost use Rattle.std.specs.Prelude.{None};
     ghost use Rattle.polynomial.specs.Polynomial.{ZERO};
 
+    // Before the first record.
     pub fn new() -> Filing
         ensures { result ≡ record { variables = None; work = ZERO } }
     {
@@ -185,7 +186,8 @@ impl Filing {
         self.variables.is_some() && self.work.count == Polynomial::ZERO.count
     }
 
-    // Reads the records one after the other, up to the first that is refused.
+    // Reads the records one after the other, up to the first that is refused. Records differ in size, so a place goes through the
+    // bytes; `derivation` has a loop of its own, since its records are lent other things, and what holds of both is one law in `walk`.
     pub fn read(
         &mut self,
         bytes: &[u8],

@@ -59,6 +59,7 @@ fn put_filing(writer: &mut Writer, answer: Result<(), Refused>)
     }
 }
 
+// The same as a text of its own.
 #[tactic(auto, using(crate::proofs::Texts::filing_short))]
 fn filing_line(answer: Result<(), Refused>) -> Text<64>
     ensures { result ≡ filing_text (told_of_filing answer) }
@@ -84,6 +85,7 @@ fn put_verdict(writer: &mut Writer, answer: Result<Confirmed, Refused>)
     }
 }
 
+// The same as a text of its own.
 #[tactic(auto, using(crate::proofs::Texts::verdict_short))]
 pub fn verdict_line(answer: Result<Confirmed, Refused>) -> Text<64>
     ensures { result ≡ verdict_text (told_of_check answer) }

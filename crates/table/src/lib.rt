@@ -27,7 +27,8 @@ pub struct Known {
     pub weight: i64,
 }
 
-/// A configuration as the list of its lines: at most `ROWS`, with 64 places of `TERMS` for the terms of each.
+/// A configuration as the list of its lines: at most `ROWS`, with 64 places of `TERMS` for the terms of each. Four areas and no rows of
+/// one struct: a search goes through `order` alone, and `specs/Rows.antt` defines the lines by the areas.
 #[derive(Drop)]
 pub struct Table<const ROWS: usize, const TERMS: usize> {
     lines: usize,
@@ -130,7 +131,8 @@ impl<const ROWS: usize, const TERMS: usize> Table<ROWS, TERMS> {
 
     // Finds the place of a polynomial, not 0, whose first term has the given key, or else where it would stand: by the keys of the
     // first terms, then from the first line that is not ahead by its key. Few lines share a first term, so that line is looked at
-    // first, and each probe reaches twice as far as the one before, at most to the middle of the rest.
+    // first, and each probe reaches twice as far as the one before, at most to the middle of the rest; a search of std's begins in
+    // the middle.
     fn find(&self, f: &[u32], first: u64) -> Result<usize, usize>
         requires some { T (some f.now) }
         requires first { first ≡ first_key f.now }
