@@ -8,16 +8,13 @@ use lib.Dec.{T, leb, eqb, eqb→eq}
 use lib.IntN.{ℤ}
 use lib.ListN.{length, drop}
 use borrow.Author.Tests.{eq-eqb, le-leb, lt-leb}
-use Rattle.std.specs.declared.result.Result.TheVariants.{Ok, Err}
-use Rattle.std.specs.Result.{MatchResult, IsErrAnd}
-use Rattle.std.specs.declared.result.Result.{Result}
+use Rattle.std.specs.declared.result.Result.TheVariants.{Ok}
 use Rattle.run.specs.BooleanLaws.{of_true, left}
 use Rattle.refusal.specs.Refusal.{numbered, refusal_of}
 use Rattle.refusal.specs.Outcome.{Outcome, accepted, unless, mapped, Reached, nothing, refused_for, after, Told, answered, refused_at}
 use Rattle.refusal.specs.OutcomeLaws.{after-refused, after-accepted, unless_fails, unless_passes}
 use Rattle.refusal.specs.TestsLaws.{nothing_found}
 use Rattle.refusal.specs.declared.Reason.{Reason}
-use Rattle.refusal.specs.declared.Refused.{Refused}
 use Rattle.configuration.specs.Configuration.{Line, weights_fit, is_configuration}
 use Rattle.configuration.specs.Made.{Made}
 use Rattle.hard.specs.Hard.{is_hard_list, HardArea, hard_image, hard_sized}
@@ -38,17 +35,6 @@ use Rattle.listing.specs.Listing.{text_of}
 use Rattle.checker.specs.Checker.{Lent, headless, lent_sized, Left, left_of, lent_with, left_by, filed_with, done, stepped, Written, written_by, fitting, step_in, check_in, file_in, write_in}
 use Rattle.checker.specs.CheckerLaws.{formed_memory, formed_hard, held_list, step_well, check_well, write_well, file_sized, file_unsized}
 use Rattle.checker.specs.Opened.{IsOpened}
-
--- ---- a reason as a refusal at record 0: what was told before
-pub told_ok : {A : Type 0} (Q : Reason → Refused → Type 0) (r : Result A Reason) (m : Result A Refused)
-    → MatchResult r (λ x. m ≡ Ok x) (λ e. IsErrAnd m (λ d. Q e d)) → (x : A) → m ≡ Ok x → r ≡ Ok x
-told_ok {A} Q (Ok y) m h x e = let z : ◌≡◌ {A = Result A Refused} (Ok y) (Ok x) = sym h ∙ e in cc
-told_ok Q (Err y) m h x e = absurd (rw e at h)
-
-pub told_err : {A : Type 0} (Q : Reason → Refused → Type 0) (r : Result A Reason) (m : Result A Refused)
-    → MatchResult r (λ x. m ≡ Ok x) (λ e. IsErrAnd m (λ d. Q e d)) → (d : Refused) → m ≡ Err d → (y : Reason) × (r ≡ Err y) × Q y d
-told_err {A} Q (Ok x) m h d e = let z : ◌≡◌ {A = Result A Refused} (Ok x) (Err d) = sym h ∙ e in cc
-told_err Q (Err y) m h d e = (y, refl, rw e at h)
 
 -- ---- the operands of a step
 pub operands_fit : (n : ℕ) (f g : List ℕ) → Finds (operand_tests n f g) (Ok tt) → IsOperand f × IsOperand g

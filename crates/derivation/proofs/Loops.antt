@@ -1,5 +1,5 @@
 -- The walk over the records as code goes it: what holds before each turn, and what is told where it ends.
-use mathlib.Core.Path.{◌≡◌, refl, sym, ap, ap₂, subst, ◌∙◌}
+use mathlib.Core.Path.{◌≡◌, refl, sym, ap, ap₂, subst}
 use mathlib.Core.List.{List}
 use Prim.Native.Nat.{ℕ, suc, ◌+◌, ◌≤◌, ◌<◌, max}
 use native.Mathlib.Numerals.{add-one}
@@ -19,7 +19,6 @@ use Rattle.refusal.specs.OutcomeLaws.{after-accepted}
 use Rattle.refusal.specs.Refusal.{refusal_of}
 use Rattle.refusal.specs.declared.Reason.{Reason}
 use Rattle.refusal.specs.declared.Refused.{Refused}
-use Rattle.std.specs.Result.{MatchResult, IsErrAnd}
 use Rattle.configuration.specs.Configuration.{Line, is_configuration}
 use Rattle.configuration.specs.LineLaws.{polynomial_run, configuration_parts}
 use Rattle.configuration.specs.Made.{Made}
@@ -34,16 +33,6 @@ use Rattle.derivation.proofs.DerivationLaws.{IsSound, IsSound-fresh, IsSound-rec
 use Rattle.derivation.proofs.DegreeLaws.{lines_run}
 use Rattle.derivation.proofs.RefusedLaws.{checking_local}
 use Rattle.derivation.proofs.Degrees.{Meets, Meets-start, Meets-next, meets_end}
-
--- ---- the number of the record, put to its refusal
-pub from_ok : (Q : Reason → Refused → Type 0) (r : Result ℕ Reason) (m : Result ℕ Refused) → MatchResult r (λ x. m ≡ Ok x) (λ e. IsErrAnd m (λ d. Q e d)) → (size : ℕ) → m ≡ Ok size → r ≡ Ok size
-from_ok Q (Ok x) m h size e = let z : ◌≡◌ {A = Result ℕ Refused} (Ok x) (Ok size) = sym h ∙ e in cc
-from_ok Q (Err y) m h size e = absurd (rw e at h)
-
-pub from_err : (Q : Reason → Refused → Type 0) (r : Result ℕ Reason) (m : Result ℕ Refused) → MatchResult r (λ x. m ≡ Ok x) (λ e. IsErrAnd m (λ d. Q e d)) → (d : Refused) → m ≡ Err d
-    → (y : Reason) × (r ≡ Err y) × Q y d
-from_err Q (Ok x) m h d e = let z : ◌≡◌ {A = Result ℕ Refused} (Ok x) (Err d) = sym h ∙ e in cc
-from_err Q (Err y) m h d e = (y, refl, rw e at h)
 
 -- ---- what a step asks
 usable : (n : ℕ) (H : List (List ℕ)) → T (is_hard_list n H) → (x : State) → IsSound n x → IsUsable H x

@@ -53,7 +53,7 @@ pub struct Refused {
     pub reason: Reason,
 }
 
-// The number of a reason in documents 01 and 02.
+// The number of a reason in documents 01 and 02. A function of this name, since callers and docs/GUARANTEES.md know it by that.
 pub fn number(reason: Reason) -> u32
     ensures { result ≡ (refusal_of reason).number }
 {

@@ -187,7 +187,7 @@ fn put_files(writer: &mut Writer, bytes: &[u8], steps: &[u8])
 }
 
 // What the program `check_derivation` prints of its files, at the front of a lent area, and its length; 0 where the area is shorter
-// than 2,449,984 bytes, which hold every report.
+// than 2,449,984 bytes, which hold every report: an answer as the function for C of the crate `boundary` gives it.
 pub fn check_files(bytes: &[u8], steps: &[u8], out: &mut [u8]) -> usize
     ensures { record { area = out.new; size = result } ≡ check_into bytes.now steps.now out.old }
 {

@@ -32,6 +32,7 @@ pub fn add_term(
         return Err(Reason::UnknownVariable);
     }
     let sum = toggle(&mut work.terms, work.count, mask);
+    // The test has a name of its own, so that what a proof says of it stands whatever the number is.
     let fits = sum <= 64;
     if !fits {
         return Err(Reason::TooManyTerms(sum as u64));
