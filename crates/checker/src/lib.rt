@@ -1,5 +1,5 @@
 // The operations as callers use them. Each tests what it is lent, reads its lines into a table, works on them, and writes back what
-// is left.
+// is left. The areas are parameters of their own, as callers lend them.
 #![tactic(auto)]
 
 mod admission;

@@ -15,7 +15,7 @@ pub enum Kind {
     Claim,
 }
 
-// The kind of a letter, if it is one.
+// The kind of a letter, if it is one: an `Option` and no `TryFrom`, since another byte has no error of its own.
 pub fn kind_of(letter: u8) -> Option<Kind>
     ensures { result ≡ kind_of letter }
 {

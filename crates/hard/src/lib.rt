@@ -10,7 +10,8 @@ ghost use Rattle.hard.specs.HardLaws.{AllShort};
 use form::hard_formed;
 use std::marker::Model;
 
-/// At most 16 hard polynomials, each of at most 64 terms, in the order in which they came.
+/// At most 16 hard polynomials, each of at most 64 terms, in the order in which they came. They lie as they are lent, each in 64 places
+/// of its own: no memory is asked for.
 #[derive(Drop)]
 pub struct HardList {
     number: usize,

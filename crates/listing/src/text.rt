@@ -114,7 +114,7 @@ impl<'a> Writer<'a> {
     }
 }
 
-// A text by value: the front of its bytes.
+// A text by value: the front of its bytes, whose room is fixed, since no memory is asked for.
 #[derive(Drop)]
 pub struct Text<const N: usize> {
     bytes: [u8; N],

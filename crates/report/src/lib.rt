@@ -59,7 +59,7 @@ fn put_filing(writer: &mut Writer, answer: Result<(), Refused>)
     }
 }
 
-// The same as a text of its own.
+// The same as a text of its own. Each line makes its writer itself: a function over closures would have to say what each writes.
 #[tactic(auto, using(crate::proofs::Texts::filing_short))]
 fn filing_line(answer: Result<(), Refused>) -> Text<64>
     ensures { result ≡ filing_text (told_of_filing answer) }
