@@ -1,7 +1,8 @@
--- What a `HardList` keeps: an area of at most 16 polynomials that is the area of the list that it holds.
-use Rattle.std.specs.Prelude.{◌≡◌, ◌≤◌}
-use Rattle.hard.specs.Hard.{HardArea, hard_of, hard_image}
+-- What a `HardList` keeps: how many polynomials there are, at most 16, and the two areas. What lies in unused places is free.
+use Rattle.std.specs.Prelude.{◌≡◌, ◌≤◌, length}
+use Rattle.hard.specs.Hard.{HardArea}
 
 pub record IsHeld (a : HardArea) : Type 0 where
   pub few : a.number ≤ 16
-  pub image : a ≡ hard_image (hard_of a)
+  pub counts_length : length a.counts ≡ 16
+  pub places_length : length a.places ≡ 1024

@@ -1,60 +1,18 @@
--- Laws of the hard list that a `HardList` keeps: a list of short polynomials and its area, one more polynomial, and a well-formed area.
-use Rattle.std.specs.Prelude.{◌≡◌, refl, List, [], ◌∷◌, ◌++◌, map, ℕ, zero, suc, ◌+◌, ◌-◌, ◌*◌, ◌≤◌, ◌<◌, T, leb, length, get_or, take, drop, set, replicate}
-use Rattle.std.proofs.Common.{sym, ap, ap₂, ◌∙◌, append_assoc, append-nil, add-one, arith, length-append, take-take}
+-- Laws of the hard list that a `HardList` keeps: the area of a list with one polynomial more, and of what areas hold.
+use Rattle.std.specs.Prelude.{◌≡◌, refl, List, [], ◌∷◌, ◌++◌, map, ℕ, zero, suc, ◌+◌, ◌-◌, ◌*◌, ◌≤◌, ◌<◌, T, length, get_or, take, drop, set, replicate}
+use Rattle.std.proofs.Common.{sym, ap, ap₂, ◌∙◌, append_assoc, append-nil, add-one, arith, length-append, length-take, length-take-le, length-drop, take-take, take-append-drop, take-suc, drop-drop, length-set}
 use Rattle.std.proofs.lemmas.List.{length-map, length-replicate}
 use Rattle.std.proofs.Math.ListN.{replicate-append-replicate}
 use Rattle.std.proofs.Math.Seq.{append_snoc, take_at, drop_at, take-append_seam, drop-append-add, set_at}
-use Rattle.run.specs.BooleanLaws.{left, right}
-use Rattle.configuration.specs.Configuration.{is_polynomial}
-use Rattle.configuration.specs.LineLaws.{polynomial_short}
-use Rattle.hard.specs.Hard.{all_polynomials, is_hard_list, HardArea, read_hard, hard_of, places_of, laid_hard, hard_image, hard_formed}
-use Rattle.hard.specs.HardLaws.{one_read, AllShort, all_read, length_places, formed_parts, formed_image}
+use Rattle.hard.specs.Hard.{HardArea, read_hard, hard_of, places_of, laid_hard, hard_image, hard_formed}
+use Rattle.hard.specs.HardLaws.{length_read, one_read, AllShort, length_places, formed_parts}
 use Rattle.hard.specs.Held.{IsHeld}
-
--- ---- lists of short polynomials
-all_short : (n : ℕ) (H : List (List ℕ)) → T (all_polynomials n H) → AllShort H
-unfolding all_polynomials
-all_short n [] p = tt
-all_short n (h ∷ H) p =
-    let a = is_polynomial n h in
-    let b = all_polynomials n H in
-    (polynomial_short n h (left a b p), all_short n H (right a b p))
-
-pub list_short : (n : ℕ) (H : List (List ℕ)) → T (is_hard_list n H) → AllShort H
-list_short n H h = all_short n H (right (leb (length H) 16) (all_polynomials n H) h)
-
-pub short_more : (H : List (List ℕ)) (f : List ℕ) → AllShort H → length f ≤ 64 → AllShort (H ++ (f ∷ []))
-short_more [] f s b = (b, tt)
-short_more (h ∷ H) f s b = (s.0, short_more H f s.1 b)
-
-short_at : (H : List (List ℕ)) (x : List ℕ) (i : ℕ) → AllShort H → i < length H → get_or (map length H ++ x) i 0 ≤ 64
-short_at [] x i s b = absurd (omega arith)
-short_at (h ∷ H) x zero s b = s.0
-short_at (h ∷ H) x (suc i) s b = short_at H x i s.1 (omega arith)
 
 -- ---- a list and its area
 pub length_rows : (H : List (List ℕ)) → AllShort H → length (laid_hard H) ≡ 64 * length H
 unfolding laid_hard
 length_rows [] s = refl
 length_rows (h ∷ H) s = rw (length-append (places_of h) (laid_hard H)) (omega (arith, length_places h s.0, length_rows H s.1))
-
-read_rows : (H : List (List ℕ)) → AllShort H → (x y : List ℕ) → read_hard (length H) (map length H ++ x) (laid_hard H ++ y) ≡ H
-unfolding read_hard laid_hard
-read_rows [] s x y = refl
-read_rows (h ∷ H) s x y =
-    let rest = laid_hard H ++ y in
-    let e : places_of h ++ laid_hard H ++ y ≡ places_of h ++ rest = append_assoc (places_of h) (laid_hard H) y in
-    let first : take 64 (laid_hard (h ∷ H) ++ y) ≡ places_of h = ap (take 64) e ∙ take_at (places_of h) rest 64 (length_places h s.0) in
-    let behind : drop 64 (laid_hard (h ∷ H) ++ y) ≡ rest = ap (drop 64) e ∙ drop_at (places_of h) rest 64 (length_places h s.0) in
-    ap₂ (λ (f : List ℕ) (G : List (List ℕ)). f ∷ G)
-    (ap (take (length h)) first ∙ take-append_seam h (replicate (64 - length h) 0))
-    (ap (read_hard (length H) (map length H ++ x)) behind ∙ read_rows H s.1 x y)
-
-pub short_back : (H : List (List ℕ)) → AllShort H → hard_of (hard_image H) ≡ H
-short_back H s = read_rows H s (replicate (16 - length H) 0) (replicate (1024 - 64 * length H) 0)
-
-pub short_held : (H : List (List ℕ)) → AllShort H → length H ≤ 16 → IsHeld (hard_image H)
-short_held H s b = record { few = b; image = ap hard_image (sym (short_back H s)) }
 
 -- ---- one more polynomial
 laid_more : (H : List (List ℕ)) (f : List ℕ) → laid_hard (H ++ (f ∷ [])) ≡ laid_hard H ++ places_of f
@@ -114,12 +72,37 @@ module _ (H : List (List ℕ)) (s : AllShort H) (b : length H < 16) (f : List �
       ∙ sym (append_assoc L (places_of f) c)
       ∙ ap (λ (s : List ℕ). s ++ c) (sym (laid_more H f))
 
--- ---- what is kept
-areas : {k m : ℕ} {cs ds ps qs : List ℕ} → k ≡ m → cs ≡ ds → ps ≡ qs
-    → ◌≡◌ {A = HardArea} (record { number = k; counts = cs; places = ps }) (record { number = m; counts = ds; places = qs })
-areas {k} {m} {cs} {ds} {ps} {qs} x y z = rw (x, y, z)
+-- ---- an area in which a polynomial is written behind the others
+take_past : (A B : List ℕ) (m n : ℕ) → n ≡ length A + m → take n (A ++ B) ≡ A ++ take m B
+take_past [] B m n e = ap (λ (j : ℕ). take j B) (omega (arith, e))
+take_past (a ∷ A) B m zero e = absurd (omega (arith, e))
+take_past (a ∷ A) B m (suc n) e = ap (λ (s : List ℕ). a ∷ s) (take_past A B m n (omega (arith, e)))
 
--- the area in which a polynomial is written behind the others
+read_more : (k : ℕ) (cs ps f : List ℕ) → k < length cs → length f ≤ 64 → 64 * k ≤ length ps
+    → read_hard (suc k) (set cs k (length f)) (take (64 * k) ps ++ (f ++ drop (64 * k + length f) ps)) ≡ read_hard k cs ps ++ (f ∷ [])
+unfolding read_hard
+read_more k [] ps f b l r = absurd (omega (arith, b))
+read_more zero (c ∷ cs) ps f b l r =
+    let n = length f in
+    let e : 64 * 0 + n ≡ n = omega arith in
+    ap (λ (j : ℕ). take n (take 64 (f ++ drop j ps)) ∷ []) e
+    ∙ ap (λ (g : List ℕ). g ∷ []) (take-take n 64 (f ++ drop n ps) l ∙ take-append_seam f (drop n ps))
+read_more (suc k) (c ∷ cs) ps f b l r =
+    let n = length f in
+    let m = 64 * k in
+    let A = take 64 ps in
+    let B = drop 64 ps in
+    let Q = take m B ++ (f ++ drop (m + n) B) in
+    let x : length A ≡ 64 = omega (arith, length-take 64 ps) in
+    let e : 64 + (m + n) ≡ 64 * suc k + n = omega arith in
+    let t : take (64 * suc k) ps ≡ A ++ take m B = ap (take (64 * suc k)) (sym (take-append-drop 64 ps)) ∙ take_past A B m (64 * suc k) (omega (arith, x)) in
+    let d : drop (64 * suc k + n) ps ≡ drop (m + n) B = ap (λ (j : ℕ). drop j ps) (sym e) ∙ sym (drop-drop (m + n) 64 ps) in
+    let whole : take (64 * suc k) ps ++ (f ++ drop (64 * suc k + n) ps) ≡ A ++ Q =
+    ap₂ (λ (u v : List ℕ). u ++ (f ++ v)) t d ∙ append_assoc A (take m B) (f ++ drop (m + n) B) in
+    ap (λ (P : List ℕ). take c (take 64 P) ∷ read_hard (suc k) (set cs k n) (drop 64 P)) whole
+    ∙ ap₂ (λ (u v : List ℕ). take c u ∷ read_hard (suc k) (set cs k n) v) (take_at A Q 64 x) (drop_at A Q 64 x)
+    ∙ ap (λ (G : List (List ℕ)). take c A ∷ G) (read_more k cs B f (omega (arith, b)) l (omega (arith, r, length-drop 64 ps)))
+
 abbrev pub with_one_more : HardArea → List ℕ → HardArea
 with_one_more a f = record {
   number = a.number + 1;
@@ -127,41 +110,65 @@ with_one_more a f = record {
   places = take (64 * a.number) a.places ++ (f ++ drop (64 * a.number + length f) a.places);
 }
 
+-- ---- what is kept
 module _ (a : HardArea) (h : IsHeld a) where
   pub held_number : a.number ≡ length (hard_of a)
-  held_number = ap (λ (x : HardArea). x.number) h.image
+  held_number = sym (length_read a.number a.counts a.places (omega (arith, h.few, h.counts_length)))
 
-  pub held_count : (i : ℕ) → i < length (hard_of a) → get_or a.counts i 0 ≤ 64
-  held_count i b =
-      rw (ap (λ (x : HardArea). get_or x.counts i 0) h.image)
-      (short_at (hard_of a) (replicate (16 - length (hard_of a)) 0) i (all_read a.number a.counts a.places) b)
+  pub held_one : (i : ℕ) → i < length (hard_of a) → get_or (hard_of a) i [] ≡ take (get_or a.counts i 0) (take 64 (drop (64 * i) a.places))
+  held_one i b = one_read a.number i a.counts a.places (omega (arith, held_number)) (omega (arith, h.few, h.counts_length))
 
-  held_sixteen : length a.counts ≡ 16
-  held_sixteen =
-      let H = hard_of a in
-      ap (λ (x : HardArea). length x.counts) h.image
-      ∙ length-append (map length H) (replicate (16 - length H) 0)
-      ∙ rw (length-map H length, length-replicate {A = ℕ} (16 - length H) 0) (omega (arith, held_number, h.few))
-
-  pub held_one : (i : ℕ) → i < length (hard_of a) → get_or (hard_of a) i [] ≡ take (get_or a.counts i 0) (drop (64 * i) a.places)
-  held_one i b =
-      one_read a.number i a.counts a.places (omega (arith, held_number)) (omega (arith, held_sixteen, h.few))
-      ∙ take-take (get_or a.counts i 0) 64 (drop (64 * i) a.places) (held_count i b)
+  pub held_short : (i : ℕ) → i < length (hard_of a) → length (get_or (hard_of a) i []) ≤ 64
+  held_short i b =
+      let places = take 64 (drop (64 * i) a.places) in
+      rw (held_one i b) (omega (arith, length-take (get_or a.counts i 0) places, length-take 64 (drop (64 * i) a.places)))
 
   module _ (f : List ℕ) (b : length (hard_of a) < 16) (l : length f ≤ 64) where
-    more_image : with_one_more a f ≡ hard_image (hard_of a ++ (f ∷ []))
-    more_image =
-        let H = hard_of a in
-        let s : AllShort H = all_read a.number a.counts a.places in
-        ap (λ (x : HardArea). with_one_more x f) h.image
-        ∙ areas (add-one (length H) ∙ sym (list_one_more H s b f l)) (counts_more H s b f l) (places_more H s b f l)
+    pub more_held : IsHeld (with_one_more a f)
+    more_held =
+        let n = length f in
+        let s = 64 * a.number in
+        let behind = f ++ drop (s + n) a.places in
+        let p : length (take s a.places ++ behind) ≡ 1024 =
+        length-append (take s a.places) behind ∙ rw (length-append f (drop (s + n) a.places)) (omega (arith, held_number, h.places_length, length-take s a.places, length-drop (s + n) a.places)) in
+        record { few = omega (arith, held_number); counts_length = length-set a.counts a.number n ∙ h.counts_length; places_length = p }
 
     pub more_list : hard_of (with_one_more a f) ≡ hard_of a ++ (f ∷ [])
-    more_list = ap hard_of more_image ∙ short_back (hard_of a ++ (f ∷ [])) (short_more (hard_of a) f (all_read a.number a.counts a.places) l)
-
-    pub more_held : IsHeld (with_one_more a f)
-    more_held = record { few = omega (arith, held_number); image = more_image ∙ ap hard_image (sym more_list) }
+    more_list =
+        let x = with_one_more a f in
+        ap (λ (k : ℕ). read_hard k x.counts x.places) (add-one a.number)
+        ∙ read_more a.number a.counts a.places f (omega (arith, held_number, h.counts_length)) l (omega (arith, held_number, h.places_length))
 
 -- a well-formed area is kept as it is
 pub formed_held : (n : ℕ) (a : HardArea) → T (hard_formed n a) → IsHeld a
-formed_held n a f = record { few = (formed_parts n a f).room; image = formed_image n a f }
+formed_held n a f = let p = formed_parts n a f in record { few = p.room; counts_length = p.counts_length; places_length = p.places_length }
+
+-- ---- the area of one polynomial more of a list H
+module _ (H : List (List ℕ)) (s : AllShort H) (r : length H ≤ 16) (i : ℕ) (b : i < length H) where
+  abbrev G : List (List ℕ)
+  G = take i H
+
+  front_short : (k : ℕ) (L : List (List ℕ)) → AllShort L → AllShort (take k L)
+  front_short zero L a = tt
+  front_short (suc k) [] a = tt
+  front_short (suc k) (g ∷ L) a = (a.0, front_short k L a.1)
+
+  length_front : length G ≡ i
+  length_front = length-take-le i H (omega (arith, b))
+
+  next : take (i + 1) H ≡ G ++ (get_or H i [] ∷ [])
+  next = ap (λ (k : ℕ). take k H) (add-one i) ∙ take-suc H i [] b
+
+  module _ (f : List ℕ) (e : f ≡ get_or H i []) (l : length f ≤ 64) where
+    next_image : hard_image (G ++ (f ∷ [])) ≡ hard_image (take (i + 1) H)
+    next_image = ap hard_image (ap (λ (g : List ℕ). G ++ (g ∷ [])) e ∙ sym next)
+
+    pub next_counts : set (hard_image G).counts i (length f) ≡ (hard_image (take (i + 1) H)).counts
+    next_counts =
+        ap (λ (k : ℕ). set (hard_image G).counts k (length f)) (sym length_front)
+        ∙ counts_more G (front_short i H s) (omega (arith, length_front, b, r)) f l ∙ ap (λ (a : HardArea). a.counts) next_image
+
+    pub next_places : take (64 * i) (hard_image G).places ++ (f ++ drop (64 * i + length f) (hard_image G).places) ≡ (hard_image (take (i + 1) H)).places
+    next_places =
+        ap (λ (k : ℕ). take (64 * k) (hard_image G).places ++ (f ++ drop (64 * k + length f) (hard_image G).places)) (sym length_front)
+        ∙ places_more G (front_short i H s) (omega (arith, length_front, b, r)) f l ∙ ap (λ (a : HardArea). a.places) next_image

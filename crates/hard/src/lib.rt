@@ -8,6 +8,8 @@ ghost use Rattle.hard.specs.Hard.{is_hard_list, hard_of, hard_image, hard_formed
 ghost use Rattle.hard.specs.HardLaws.{AllShort};
 
 use form::hard_formed;
+use polynomial::area::write;
+use polynomial::front;
 use std::marker::Model;
 
 /// At most 16 hard polynomials, each of at most 64 terms, in the order in which they came. They lie as they are lent, each in 64 places
@@ -80,8 +82,7 @@ impl HardList {
     {
         let HardList { counts, places, .. } = self;
         let start = 64 * i;
-        let end = start + counts[i] as usize;
-        &places[start..end]
+        front(&places[start..start + 64], counts[i] as usize)
     }
 
     /// Puts a polynomial behind the others. It is for `problem`, which has tested that there is room.
@@ -95,13 +96,18 @@ impl HardList {
         self.number += 1;
     }
 
-    /// Writes the list back to what is lent, but for the number, which is `len`.
+    /// Writes the list back to what is lent, zeros in all unused places, but for the number, which is `len`.
     pub fn close(&self, counts: &mut [u32], places: &mut [u32])
         requires { (length counts.old ≡ 16) × (length places.old ≡ 1024) }
         ensures counts { counts.new ≡ (hard_image self.now).counts }
         ensures places { places.new ≡ (hard_image self.now).places }
     {
-        counts.copy_from_slice(&self.counts);
-        places.copy_from_slice(&self.places);
+        counts.fill(0);
+        places.fill(0);
+        for i in 0..self.len() {
+            let f = self.polynomial(i);
+            counts[i] = f.len() as u32;
+            write(places, 64 * i, f);
+        }
     }
 }

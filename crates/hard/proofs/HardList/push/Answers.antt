@@ -1,7 +1,19 @@
 -- `push` meets its contract: the area is that of the longer list.
-use Rattle.std.proofs.Common.{◌≡◌, ◌+◌, ◌-◌, ◌*◌, length, arith, drop-drop}
-use Rattle.hard.specs.HeldLaws.{more_held, more_list}
+use Rattle.std.proofs.Common.{◌≡◌, ap, ◌∙◌, ◌+◌, ◌-◌, ◌*◌, ◌<◌, List, ℕ, length, arith, rules, drop-drop}
+use Rattle.hard.specs.HeldLaws.{held_number, more_held, more_list}
 use Rattle.hard.proofs.HardList.push.Goals as goal
+use Rattle.hard.proofs.HardList.push.Goals.{After-self}
+
+there : (c : After-self) → c.self.inside.number < 16
+there c =
+    let e : c.self.inside.number ≡ length c.args.self.now = held_number _ c.self.invariant ∙ ap (λ (H : List (List ℕ)). length H) c.self.view_is in
+    omega (arith, e, c.requires.0)
+
+pub slice_bounds-copy_from_slice-end : goal.slice_bounds-copy_from_slice-end
+slice_bounds-copy_from_slice-end c = let b = there (goal.at.slice_bounds-copy_from_slice-end c).After-self in search rules
+
+pub bounds-self-inside-self-inside : goal.bounds-self-inside-self-inside
+bounds-self-inside-self-inside c = omega (arith, there (goal.at.bounds-self-inside-self-inside c).After-self)
 
 pub invariant_of-self : goal.invariant_of-self
 invariant_of-self c =
