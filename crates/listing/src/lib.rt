@@ -4,7 +4,7 @@
 pub mod code;
 pub mod text;
 
-ghost use Rattle.std.specs.Prelude.{◌≡◌, ◌+◌, ◌≤◌, length};
+ghost use Rattle.std.specs.Prelude.{◌+◌, ◌≤◌, length};
 ghost use Rattle.configuration.specs.Configuration.{line};
 ghost use Rattle.listing.specs.Listing.{hard_line, header_text, hard_text, line_text, text_of, listing_of};
 ghost use Rattle.listing.specs.Writer.{HasRoom, Wrote};
