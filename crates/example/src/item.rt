@@ -8,11 +8,7 @@ use calculus::{Mode, Rule};
 use memory::{Entry, Head};
 use record::{read_amount, read_mask};
 use std::alloc::{AllocError, Global};
-use std::num::wrapping_add_usize;
 use step::Move;
-
-// A place that no data has.
-const BEYOND: usize = usize::MAX;
 
 // What the byte of an item says of its numbers and operands.
 #[derive(Clone, Copy)]
@@ -118,14 +114,6 @@ pub fn signed_at(data: &[u8], at: usize) -> i64 {
     read_amount(data, at).unwrap_or(0)
 }
 
-// The place behind a text.
-fn behind(data: &[u8], at: usize) -> usize {
-    match read_mask(data, at) {
-        Some(size) => wrapping_add_usize(at, 4 + size as usize),
-        None => BEYOND,
-    }
-}
-
 // The first 128 terms of an operand.
 pub fn terms_of(alloc: Global, operand: &[u8]) -> Result<Vec<u32>, AllocError> {
     operand
@@ -139,9 +127,8 @@ pub fn terms_of(alloc: Global, operand: &[u8]) -> Result<Vec<u32>, AllocError> {
 fn split_text(data: &[u8]) -> Option<(&[u8], &[u8])>
     ensures { IfSome result (λ x. length x.1.now < length «data».now) }
 {
-    let end = behind(data, 0);
-    let text = data.get(4..end)?;
-    Some((text, &data[end..]))
+    let size = read_mask(data, 0)? as usize;
+    data.get(4..)?.split_at_checked(size)
 }
 
 // The change that a kind and its numbers are, if they are one.

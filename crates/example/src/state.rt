@@ -67,10 +67,7 @@ impl State {
             hard: 0,
         },
         terms: [0; 8192],
-        entries: [Entry {
-            weight: 0,
-            count: 0,
-        }; 129],
+        entries: [Entry::UNUSED; 129],
         counts: [0; 17],
         places: [0; 1025],
         lent: Lengths::DUE,

@@ -27,7 +27,7 @@ pub fn read_mask(bytes: &[u8], at: usize) -> Option<u32>
     Some(u32::from_le_bytes(*mask))
 }
 
-// Reads a body of a weight, an amount or a claim.
+// Reads a body of a weight, an amount or a claim. A function for both would need a trait for `from_le_bytes`, which each type has alone.
 pub fn read_amount(bytes: &[u8], at: usize) -> Option<i64>
     ensures { result ≡ amount_in bytes.now at }
 {
