@@ -1,2 +1,3 @@
 pub mod Fnv
 pub mod FnvLaws
+pub mod Halves

@@ -3,6 +3,7 @@
 
 ghost use Rattle.std.specs.Prelude.{◌≡◌, ◌*◌, ◌%◌, ◌^◌};
 ghost use Rattle.fnv.specs.Fnv.{basis, add_byte, add_bytes};
+ghost use Rattle.fnv.specs.Halves.{product_by_halves};
 
 // The code of no bytes.
 const BASIS: u64 = 14695981039346656037;
@@ -17,9 +18,10 @@ pub fn start() -> u64
     BASIS
 }
 
-// a * b modulo 2^64, for any a and b.
+// a * b modulo 2^64, for any a and b. `halves`: it is made of products of halves of 32 bits, none of which takes more than 64 bits.
 pub fn multiply(a: u64, b: u64) -> u64
-    ensures { result ≡ a * b % 2 ^ 64 }
+    ensures product { result ≡ a * b % 2 ^ 64 }
+    ensures halves { result ≡ product_by_halves 32 a b }
 {
     a.wrapping_mul(b)
 }
