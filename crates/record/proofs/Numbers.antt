@@ -32,7 +32,7 @@ unfolding little_endian
 first_byte [] = refl
 first_byte (b ∷ s) = omega arith
 
-one_byte : (s : List ℕ) (at : ℕ) → number_at 1 s at ≡ get_or s at 0
+pub one_byte : (s : List ℕ) (at : ℕ) → number_at 1 s at ≡ get_or s at 0
 one_byte s zero = first_byte s
 one_byte [] (suc at) = first_byte []
 one_byte (b ∷ s) (suc at) = one_byte s at
