@@ -30,10 +30,10 @@ pub confirmed_length : (w : ℤ) (d : ℕ) → length (confirmed_text w d) ≡ l
 unfolding confirmed_text
 confirmed_length w d = simp length-append (omega arith)
 
-refusal_short : (x : Refusal) (k : ℕ) → x.number ≤ 19 → length (refusal_text x k) ≤ 42
+pub refusal_short : (x : Refusal) (k : ℕ) → x.number ≤ 19 → length (refusal_text x k) ≤ 42
 refusal_short x k h = omega (arith, refusal_length x k, decimal_digits 1 x.number (omega arith) (omega arith), decimal_short k)
 
-confirmed_short : (w : ℤ) (d : ℕ) → length (confirmed_text w d) ≤ 60
+pub confirmed_short : (w : ℤ) (d : ℕ) → length (confirmed_text w d) ≤ 60
 confirmed_short w d = omega (arith, confirmed_length w d, weight_short w, decimal_short d)
 
 pub filing_short : (a : Result (Unit {0}) Refused) → length (filing_text (told_of_filing a)) ≤ 64
