@@ -74,7 +74,7 @@ impl HardList {
         self.number
     }
 
-    /// The polynomial at a place, from 0.
+    /// The polynomial at a place, from 0. It is for `step` and `listing`, which have tested the place.
     pub fn polynomial(&self, i: usize) -> &[u32]
         requires { i < length self.now }
         ensures terms { result.now ≡ get_or self.now i [] }
@@ -96,7 +96,8 @@ impl HardList {
         self.number += 1;
     }
 
-    /// Writes the list back to what is lent, zeros in all unused places, but for the number, which is `len`.
+    /// Writes the list back to what is lent, zeros in all unused places, but for the number, which is `len`. It is for `checker`, which has
+    /// tested the lengths.
     pub fn close(&self, counts: &mut [u32], places: &mut [u32])
         requires { (length counts.old ≡ 16) × (length places.old ≡ 1024) }
         ensures counts { counts.new ≡ (hard_image self.now).counts }
