@@ -1,4 +1,4 @@
--- The working form of the hard list, while an operation runs: one run of 1,041 numbers, which are how many polynomials there are, the 16 counts, and the 1,024 places.
+-- The hard list as one run of 1,041 numbers, which are how many polynomials there are, the 16 counts, and the 1,024 places. What a `HardList` keeps while an operation runs is such a run, in these three parts.
 use Rattle.std.specs.Prelude.{◌≡◌, List, ◌∷◌, ◌++◌, ℕ, ◌≤◌, length, get_or, take, drop}
 use Rattle.hard.specs.Hard.{HardArea, hard_of, hard_image}
 

@@ -3,6 +3,7 @@ use Rattle.std.specs.Prelude.{◌≡◌, refl, List, [], ℕ, ◌+◌, ◌*◌, 
 use Rattle.std.proofs.Common.{ap, ap₂, ◌∙◌, arith, length-append, length-take, length-drop, take_at, drop_at, get_or-take, get_or-drop, drop-drop}
 use Rattle.hard.specs.Hard.{is_hard_list, HardArea, hard_of, laid_hard, hard_image, hard_formed}
 use Rattle.hard.specs.HardLaws.{list_room, length_read, one_read, AllShort, all_read, image_back, counts_sixteen, places_1024, formed_parts}
+use Rattle.hard.specs.Held.{IsHeld}
 use Rattle.hard.specs.Working.{flat, area_in, hard_in, run_of, HardFits}
 
 -- an area of 16 counts is read back from its run
@@ -38,6 +39,14 @@ module _ (n : ℕ) (a : HardArea) (f : T (hard_formed n a)) where
 
   pub flat_back : hard_in (flat a) ≡ hard_of a
   flat_back = ap hard_of (area_back a (formed_parts n a f).counts_length)
+
+-- what a `HardList` keeps is a run that fits, in parts, and that run holds its list: what follows of every run that fits is so of every `HardList`
+module _ (a : HardArea) (h : IsHeld a) where
+  pub held_fits : HardFits (flat a)
+  held_fits = (rw (length-append a.counts a.places) (omega (arith, h.counts_length, h.places_length)), h.few)
+
+  pub held_back : hard_in (flat a) ≡ hard_of a
+  held_back = ap hard_of (area_back a h.counts_length)
 
 -- ---- of every run that fits
 module _ (rs : List ℕ) (h : HardFits rs) where

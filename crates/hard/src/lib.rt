@@ -6,6 +6,7 @@ pub mod form;
 ghost use Rattle.std.specs.Prelude.{◌≡◌, [], ◌++◌, ◌∷◌, ◌≤◌, ◌<◌, T, is_some, IfSome, length, get_or};
 ghost use Rattle.hard.specs.Hard.{is_hard_list, hard_of, hard_image, hard_formed};
 ghost use Rattle.hard.specs.HardLaws.{AllShort};
+ghost use Rattle.hard.specs.Working.{flat, hard_in, run_of};
 
 use form::hard_formed;
 use polynomial::area::write;
@@ -51,6 +52,7 @@ impl HardList {
         ensures formed { is_some result ≡ hard_formed variables (record { number = number; counts = counts.now; places = places.now }) }
         ensures list { IfSome result (λ H. H ≡ hard_of (record { number = number; counts = counts.now; places = places.now })) }
         ensures polynomials { IfSome result (λ H. T (is_hard_list variables H)) }
+        ensures run { IfSome result (λ H. H ≡ hard_in (flat (record { number = number; counts = counts.now; places = places.now }))) }
     {
         let counts = <&[u32; 16]>::try_from(counts).ok()?;
         let places = <&[u32; 1024]>::try_from(places).ok()?;
@@ -102,6 +104,7 @@ impl HardList {
         requires { (length counts.old ≡ 16) × (length places.old ≡ 1024) }
         ensures counts { counts.new ≡ (hard_image self.now).counts }
         ensures places { places.new ≡ (hard_image self.now).places }
+        ensures run { flat (record { number = length self.now; counts = counts.new; places = places.new }) ≡ run_of self.now }
     {
         counts.fill(0);
         places.fill(0);
