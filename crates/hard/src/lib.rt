@@ -1,4 +1,4 @@
-// The hard list: whether what is lent of it is well formed, and the type that holds it while an operation runs.
+// The hard list: whether what is lent of it is well formed, the type that holds it while an operation runs, and the list as one run.
 #![tactic(auto)]
 
 pub mod form;
@@ -6,7 +6,7 @@ pub mod form;
 ghost use Rattle.std.specs.Prelude.{◌≡◌, [], ◌++◌, ◌∷◌, ◌≤◌, ◌<◌, T, is_some, IfSome, length, get_or};
 ghost use Rattle.hard.specs.Hard.{is_hard_list, hard_of, hard_image, hard_formed};
 ghost use Rattle.hard.specs.HardLaws.{AllShort};
-ghost use Rattle.hard.specs.Working.{flat, hard_in, run_of};
+ghost use Rattle.hard.specs.Working.{flat, area_in, hard_in, run_of};
 
 use form::hard_formed;
 use polynomial::area::write;
@@ -114,4 +114,24 @@ impl HardList {
             write(places, 64 * i, f);
         }
     }
+}
+
+/// From what is lent to the list as one run of 1,041 numbers. It is for callers who keep that run in place of a `HardList`, and have tested
+/// the lengths: what is lent may hold anything.
+pub fn gather(number: u32, counts: &[u32], places: &[u32], hard: &mut [u32])
+    requires { (length counts.now ≡ 16) × (length places.now ≡ 1024) × (length hard.old ≡ 1041) }
+    ensures { hard.new ≡ flat (record { number = number; counts = counts.now; places = places.now }) }
+{
+    hard[0] = number;
+    hard[1..17].copy_from_slice(counts);
+    hard[17..].copy_from_slice(places);
+}
+
+/// From that run to what is lent, but for the number. It is for the same callers.
+pub fn scatter(hard: &[u32], counts: &mut [u32], places: &mut [u32])
+    requires { (length hard.now ≡ 1041) × (length counts.old ≡ 16) × (length places.old ≡ 1024) }
+    ensures { let a = area_in hard.now in (counts.new ≡ a.counts) × (places.new ≡ a.places) }
+{
+    counts.copy_from_slice(&hard[1..17]);
+    places.copy_from_slice(&hard[17..]);
 }
