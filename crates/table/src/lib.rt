@@ -2,7 +2,7 @@
 // of a function with a `requires` have made the table, and tested the polynomials.
 #![tactic(auto)]
 
-mod order;
+pub mod order;
 
 ghost use Rattle.std.specs.Prelude.{◌≡◌, not, List, [], ◌++◌, ◌∷◌, suc, ◌*◌, ◌≤◌, ◌<◌, ◌^◌, true, false, T, ◌+ℤ◌, length, take, drop, MatchResult};
 ghost use Rattle.std.specs.Int.Signed.{mag};
@@ -55,7 +55,7 @@ impl<const ROWS: usize, const TERMS: usize> Model for Table<ROWS, TERMS> {
 // A method that calls another on the table reads a field first, if only to let it be: with the invariant the size of the table is
 // known, as each call asks.
 impl<const ROWS: usize, const TERMS: usize> Table<ROWS, TERMS> {
-    // No lines.
+    // No lines. It is for the crates `checker` and `report`, which make `Lines`, and for `step`, which makes `Changes`.
     pub fn new() -> Self
         requires few { ROWS ≤ 128 }
         requires room { TERMS ≡ 64 * ROWS }
@@ -84,7 +84,8 @@ impl<const ROWS: usize, const TERMS: usize> Table<ROWS, TERMS> {
         self.lines
     }
 
-    // The polynomial of the line at a place.
+    // The polynomial of the line at a place. It is for this crate, for `replacement`, and for `memory` and `listing`, which read lines
+    // one by one.
     pub fn terms(&self, at: usize) -> &[u32]
         requires { at < length self.now }
         ensures line { result.now ≡ terms_at self.now at }
@@ -98,7 +99,7 @@ impl<const ROWS: usize, const TERMS: usize> Table<ROWS, TERMS> {
         &terms[start..end]
     }
 
-    // Its weight.
+    // Its weight. It is for the same crates.
     pub fn weight(&self, at: usize) -> i64
         requires { at < length self.now }
         ensures { result ≡ weight_at self.now at }
@@ -107,7 +108,7 @@ impl<const ROWS: usize, const TERMS: usize> Table<ROWS, TERMS> {
         self.weights[here]
     }
 
-    // The key of its first term.
+    // The key of its first term. It is for the crate `replacement`.
     pub fn key(&self, at: usize) -> u64
         requires { at < length self.now }
         ensures { result ≡ first_key (terms_at self.now at) }
@@ -161,7 +162,8 @@ impl<const ROWS: usize, const TERMS: usize> Table<ROWS, TERMS> {
         Err(low)
     }
 
-    // Where a polynomial, not 0, stands or would stand, and its weight. The key of its first term is given.
+    // Where a polynomial, not 0, stands or would stand, and its weight. The key of its first term is given. It is for this crate and
+    // `replacement`.
     pub fn look_up(&self, f: &[u32], first: u64) -> Known
         requires some { T (some f.now) }
         requires first { first ≡ first_key f.now }
@@ -178,7 +180,7 @@ impl<const ROWS: usize, const TERMS: usize> Table<ROWS, TERMS> {
         }
     }
 
-    // The weight of a polynomial, not 0: 0 if it is not held.
+    // The weight of a polynomial, not 0: 0 if it is not held. It is for the crates `step` and `derivation`.
     pub fn weight_of(&self, f: &[u32]) -> i64
         requires { T (some f.now) }
         ensures { result ≡ weight self.now f.now }
@@ -229,7 +231,8 @@ impl<const ROWS: usize, const TERMS: usize> Table<ROWS, TERMS> {
         self.weights[here] = weight;
     }
 
-    // Folds a weighted polynomial, not 0, in at its place, where the key of its first term is given and what is known of it.
+    // Folds a weighted polynomial, not 0, in at its place, where the key of its first term is given and what is known of it. It is
+    // for this crate and `replacement`.
     pub fn add_at(&mut self, known: Known, f: &[u32], first: u64, amount: i64)
         requires at { known.at ≡ place_of f.now self.old }
         requires weight { known.weight ≡ weight self.old f.now }
@@ -255,7 +258,8 @@ impl<const ROWS: usize, const TERMS: usize> Table<ROWS, TERMS> {
         }
     }
 
-    // Folds a weighted polynomial in: an equal polynomial's weight is added up, a weight or polynomial 0 vanishes.
+    // Folds a weighted polynomial in: an equal polynomial's weight is added up, a weight or polynomial 0 vanishes. It is for the
+    // crate `step`.
     pub fn add(&mut self, f: &[u32], amount: i64)
         requires short { length f.now ≤ 64 }
         requires fits { mag (weight self.old f.now +ℤ amount) < 2 ^ 63 }
@@ -271,7 +275,7 @@ impl<const ROWS: usize, const TERMS: usize> Table<ROWS, TERMS> {
         self.add_at(known, f, first, amount);
     }
 
-    // Puts a line behind all others.
+    // Puts a line behind all others. It is for the crate `memory`, which fills a table line by line, each behind the one before.
     pub fn push(&mut self, f: &[u32], weight: i64)
         requires room { length self.old < ROWS }
         requires short { length f.now ≤ 64 }

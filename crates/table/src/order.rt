@@ -2,7 +2,7 @@
 ghost use Rattle.std.specs.Prelude.{◌≡◌, ◌≤◌, ◌<◌, ◌^◌, length, get_or, take};
 ghost use Rattle.table.specs.Rows.{row_of, key_in, ahead as leading, IsFalling};
 
-// The row of the line at a place.
+// The row of the line at a place. It is for this crate.
 pub fn row_at(order: &[u64], at: usize) -> usize
     requires { at < length order.now }
     ensures { result ≡ row_of (get_or order.now at 0) }
@@ -11,7 +11,7 @@ pub fn row_at(order: &[u64], at: usize) -> usize
     (entry % 128) as usize
 }
 
-// The key of the first term of the line at a place.
+// The key of the first term of the line at a place. It is for this crate.
 pub fn key_at(order: &[u64], at: usize) -> u64
     requires { at < length order.now }
     ensures { result ≡ key_in (get_or order.now at 0) }
@@ -30,7 +30,7 @@ fn above(entry: u64, key: u64) -> usize
 }
 
 // How many of the first entries have a key above the given one, by halving: the answer lies from `low` to `low + size`. It is
-// for searches, where keys fall. The loop has no branch but its end, since nothing could guess the others: `low`
+// for this crate's search, where keys fall. The loop has no branch but its end, since nothing could guess the others: `low`
 // grows by a product.
 pub fn ahead(lines: usize, order: &[u64], key: u64) -> usize
     requires { (lines ≤ length order.now) × IsFalling (take lines order.now) × (key < 2 ^ 38) }
