@@ -10,7 +10,7 @@ use lib.IntN.{ℤ, pos}
 use lib.ListN.{length, get_or, set, take, drop, length-append, length-drop, length-set}
 use lib.Seq.{slice, length-slice, length-take-le, take_at, drop_at, take-take, drop-drop, split_at, get_or-take, get_or-set_same, get_or-set_other}
 use Rattle.configuration.specs.Configuration.{Line, line, some, IsBehind, IsInOrder}
-use Rattle.table.specs.Rows.{Table, row_of, key_in, terms_in, line_in, lines_at, lines_of, Each, Misses, first_key, Entered, Fits}
+use Rattle.table.specs.Rows.{Table, row_of, key_in, terms_in, line_in, lines_at, lines_of, Each, Misses, first_key, Entered, Fits, Holds}
 use Rattle.table.specs.RowsLaws.{lines_long, row_below, held_below}
 use Rattle.table.proofs.Entries.{map-append, map-take, map-drop, Each-append, Each-front, Each-take, Each-drop, Each-rest, with_entry, without_entry, Once-at, Once-take, with_once, without_once, with_length, without_length}
 
@@ -182,7 +182,7 @@ module _ {c : ℕ} {t : Table} (q : Fits c t) where
     Entered-put = rw entries_are (Each-append (Entered after) (take at is) (e ∷ slice at n is) (Entered-stay others (take at is) free_first (first_entered at ha))
         ((put_key ∙ ap first_key (sym terms_are), rw count_is hf), Entered-stay others (slice at n is) free_last (last_entered at)))
 
-    pub inserted : (lines_of after ≡ take at L ++ line f w ∷ drop at L) × Fits c after
+    pub inserted : Holds c (take at L ++ line f w ∷ drop at L) after
     inserted = (
       lines_put,
       record {
@@ -217,7 +217,7 @@ module _ {c : ℕ} {t : Table} (q : Fits c t) where
     lines_left =
         ap (lines_at t) entries_left ∙ map-append (λ e. line_in t (row_of e)) (take at is) (slice (suc at) n is) ∙ ap₂ ◌++◌ (first_lines at (omega arith)) (last_lines (suc at))
 
-    pub removed : (lines_of left_over ≡ take at L ++ drop (suc at) L) × Fits c left_over
+    pub removed : Holds c (take at L ++ drop (suc at) L) left_over
     removed = (
       lines_left,
       record {
@@ -267,7 +267,7 @@ module _ {c : ℕ} {t : Table} (q : Fits c t) where
         (ap₂ (λ (a : Line) (b : List Line). a ∷ b) (ap (line_in anew) entry_row ∙ ap₂ line (ap (terms_in t) er ∙ sym ef) (get_or-set_same t.weights r w (pos 0) in_weights))
         (lines_stay same_others y (Each-rest _ x y alone) (Each-drop (Entered t) (suc at) (take n is) q.entered) ∙ last_lines (suc at)))
 
-    pub weighed : (lines_of anew ≡ take at L ++ line f w ∷ drop (suc at) L) × Fits c anew
+    pub weighed : Holds c (take at L ++ line f w ∷ drop (suc at) L) anew
     weighed = (
       lines_anew,
       record {

@@ -14,7 +14,7 @@ pub record Table : Type 0 where
   pub weights : List ℤ
   pub counts : List ℕ
 
--- a table as a function is lent it: how many lines it has, and what its four areas hold
+-- a table by the fields that code has: how many lines there are, and what the four areas hold
 abbrev pub table_at : ℕ → List ℕ → List ℕ → List ℤ → List ℕ → Table
 table_at n is ts ws cs = record { lines = n; order = is; terms = ts; weights = ws; counts = cs }
 
@@ -82,7 +82,7 @@ pub record Fits (c : ℕ) (t : Table) : Type 0 where
   pub entered : Each (Entered t) (take t.lines t.order)
   pub ordered : IsInOrder (lines_of t)
 
--- a table fits and holds the lines L: what a function that changes it leaves
+-- a table fits and holds the lines L: each of the code holds the list that is its model (`TableLaws` `kept_holds`), also when a function has changed it
 abbrev pub Holds : ℕ → List Line → Table → Type 0
 Holds c L t = (lines_of t ≡ L) × Fits c t
 

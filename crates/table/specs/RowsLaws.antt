@@ -124,23 +124,23 @@ fresh_fits c ts ws cs b lt lw lc = record {
   ordered = tt;
 }
 
--- as code makes one of 128 lines, all zero
+-- as code makes one of 128 rows (`Lines`), all zero
 pub blank_fits : Fits 128 (record { lines = 0; order = in_turn 128 0; terms = replicate 8192 0; weights = replicate 128 (pos 0); counts = replicate 128 0 })
 blank_fits = fresh_fits 128 (replicate 8192 0) (replicate 128 (pos 0)) (replicate 128 0) (omega arith) (length-replicate {A = ℕ} 8192 0) (length-replicate {A = ℤ} 128 (pos 0))
     (length-replicate {A = ℕ} 128 0)
 
--- an empty table of four, as code writes its order
+-- the order of a fresh table of four (`Changes`), number by number
 pub four_order : 0 ∷ 1 ∷ 2 ∷ 3 ∷ [] ≡ in_turn 4 0
 unfolding in_turn
 four_order = refl
 
--- ---- the capacity, as a function is asked for it that has the areas alone
+-- ---- the capacity, as the areas alone tell it
 pub of_capacity : {c : ℕ} {t : Table} → Fits c t → Fits (capacity_of t) t
 of_capacity {c} {t} q = subst (λ (n : ℕ). Fits n t) (sym q.counts_length) q
 
 pub to_capacity : {c : ℕ} {t u : Table} → Fits c t → Fits (capacity_of t) u → Fits c u
 to_capacity {c} {t} {u} q x = subst (λ (n : ℕ). Fits n u) q.counts_length x
 
--- each row has a weight, as `none_negative` asks for it
+-- each row has a weight: `none_negative` reads that of each line's row
 pub Once-weights : {c : ℕ} {t : Table} → Fits c t → Once (length t.weights) t.order
 Once-weights {c} {t} q = subst (λ (n : ℕ). Once n t.order) (sym q.weights_length) q.once

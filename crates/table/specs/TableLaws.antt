@@ -3,8 +3,12 @@ use Rattle.std.specs.Prelude.{◌≡◌, refl, List, [], ◌∷◌, ℕ, zero, s
 use Rattle.std.proofs.Common.{◌∙◌, ap, sym, add-one, le_of_suc-le-suc, not-suc-le-zero, drop-cons}
 use Rattle.term.specs.OrderLaws.{key_degree}
 use Rattle.configuration.specs.Configuration.{Line, line}
-use Rattle.table.specs.Rows.{first_key}
-use Rattle.table.specs.Table.{no_line, terms_at, weight_at, leading_degree}
+use Rattle.table.specs.Rows.{Table, lines_of, first_key, Holds}
+use Rattle.table.specs.Table.{no_line, terms_at, weight_at, leading_degree, IsKept}
+
+-- a kept table, as each of the code is, holds the list that is its model
+pub kept_holds : {c : ℕ} {t : Table} → IsKept c t → Holds c (lines_of t) t
+kept_holds q = (refl, q.fits)
 
 -- the line at a place
 pub line_is : (L : List Line) (i : ℕ) (d : Line) → i < length L → get_or L i d ≡ line (terms_at L i) (weight_at L i)
