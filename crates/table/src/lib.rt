@@ -15,6 +15,7 @@ ghost use Rattle.table.specs.Table.{IsKept, terms_at, weight_at, first_degree, L
 use configuration::weight::is_negative;
 use mask::shift;
 use order::{ahead, key_at, row_at};
+use polynomial::Polynomial;
 use polynomial::area::write;
 use polynomial::order::compare;
 use std::cmp::Ordering;
@@ -266,7 +267,7 @@ impl<const ROWS: usize, const TERMS: usize> Table<ROWS, TERMS> {
         requires room { length (add f.now amount self.old) ≤ ROWS }
         ensures { self.new ≡ add f.now amount self.old }
     {
-        if f.is_empty() {
+        if f.len() == Polynomial::ZERO.count {
             return;
         }
         let _ = &self.lines;
