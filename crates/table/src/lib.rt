@@ -105,8 +105,7 @@ impl<const ROWS: usize, const TERMS: usize> Table<ROWS, TERMS> {
         requires { at < length self.now }
         ensures { result ≡ weight_at self.now at }
     {
-        let here = row_at(&self.order, at);
-        self.weights[here]
+        self.weights[row_at(&self.order, at)]
     }
 
     // The key of its first term. It is for the crate `replacement`.
