@@ -11,13 +11,14 @@ use crate::{Entry, Head};
 use configuration::area::is_zero;
 use configuration::form::is_polynomial;
 use configuration::weight::within_limit;
+use polynomial::Polynomial;
 use polynomial::order::compare;
 
 // Whether a line may be held, with its weight in range.
 fn line_fits(variables: u32, terms: &[u32], weight: i64) -> bool
     ensures { result ≡ (line_fits variables (line terms.now weight) && in_range weight) }
 {
-    if terms.is_empty() {
+    if terms.len() == Polynomial::ZERO.count {
         return false;
     }
     if weight == 0 {

@@ -1,7 +1,6 @@
 -- Each test is one of those that the definition joins.
-use Rattle.std.proofs.Common.{◌≡◌, sym, ap, ◌∙◌, Bool, ◌&&◌, w64, ℕ, ◌==◌, true, false, true≢false, eqb→eq}
+use Rattle.std.proofs.Common.{◌≡◌, sym, ap, ◌∙◌, Bool, ◌&&◌, w64}
 use Rattle.std.proofs.lemmas.Int.{to_z-of_z}
-use Rattle.run.specs.BooleanLaws.{of_true}
 use Rattle.configuration.specs.Weight.{in_range}
 use Rattle.configuration.specs.Configuration.{line, line_fits}
 use Rattle.configuration.proofs.Weights.{is_zero_lem, not_zero}
@@ -9,17 +8,8 @@ use Rattle.memory.proofs.Forms.{and-false, and-true, without_terms, without_weig
 use Rattle.memory.proofs.form.line_fits.Goals as goal
 use Rattle.memory.proofs.form.line_fits.Goals.{After-within_limit}
 
--- an area of no places
-none_of : {b : Bool} {n : ℕ} → b ≡ (n == 0) → b ≡ true → n ≡ 0
-none_of {b} {n} e h = eqb→eq n 0 (of_true (sym e ∙ h))
-
-some_of : {b : Bool} {n : ℕ} → b ≡ (n == 0) → b ≡ false → n ≡ 0 → ⊥
-some_of {b} {n} e h z = true≢false (sym (ap (λ (k : ℕ). k == 0) z) ∙ sym e ∙ h)
-
-pub returns-then-is_empty : goal.returns-then-is_empty
-returns-then-is_empty c =
-    let a = c.args in
-    ap (λ (b : Bool). b && in_range a.weight) (without_terms a.variables a.terms.now a.weight (none_of c.is_empty.ensures c.if-is_empty.true))
+pub returns-then-terms : goal.returns-then-terms
+returns-then-terms c = let a = c.args in ap (λ (b : Bool). b && in_range a.weight) (without_terms a.variables a.terms.now a.weight c.if-terms.true)
 
 pub returns-then-weight-eq0 : goal.returns-then-weight-eq0
 returns-then-weight-eq0 c =
@@ -40,6 +30,6 @@ pub returns : goal.returns
 returns c =
     let a = c.args in
     c.is_polynomial.ensures
-    ∙ the_polynomial a.variables a.terms.now a.weight (some_of c.is_empty.ensures c.if-is_empty.false) (not_zero a.weight c.if-weight-eq0.false)
+    ∙ the_polynomial a.variables a.terms.now a.weight c.if-terms.false (not_zero a.weight c.if-weight-eq0.false)
     ∙ sym (and-true (line_fits a.variables (line a.terms.now a.weight)) (in_range a.weight)
     (sym (ranged (goal.at.returns c).After-within_limit) ∙ c.if-not-within_limit.false))
