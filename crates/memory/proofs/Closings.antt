@@ -1,12 +1,12 @@
 -- The steps of writing lines back, over plain lists: the terms and the entry of one line more, and what lies behind the last.
 use mathlib.Core.Path.{◌≡◌, refl, sym, ap, ap₂, ◌∙◌}
 use mathlib.Core.List.{List, [], ◌∷◌, ◌++◌, append_assoc, append-nil}
-use Prim.Native.Nat.{ℕ, suc, ◌+◌, ◌-◌, ◌≤◌, ◌<◌}
+use Prim.Native.Nat.{ℕ, ◌+◌, ◌-◌, ◌≤◌, ◌<◌}
 use native.Mathlib.Numerals.{add-one}
 use native.Mathlib.Omega.{arith}
 use lib.IntN.{ℤ}
 use lib.ListN.{length, get_or, set, take, drop, replicate, length-append, length-drop, length-replicate, replicate-append-replicate}
-use lib.Seq.{append_snoc, take_at, drop_at, take-suc, drop-drop, set_at, length-take-le}
+use lib.Seq.{append_snoc, take_at, drop_at, take-suc, drop-cons, drop-drop, set_at, length-take-le}
 use Rattle.configuration.specs.Configuration.{Line, line}
 use Rattle.configuration.specs.LineLaws.{IsShort, Every-take}
 use Rattle.memory.specs.declared.Entry.{Entry}
@@ -25,9 +25,9 @@ pub no_end : (N : List Line) → 0 ≡ length (all_terms (take 0 N))
 unfolding all_terms
 no_end N = refl
 
-pub no_lines : (N : List Line) → replicate 128 unused ≡ entries_of (take 0 N) ++ replicate (128 - 0) unused
+pub no_lines : (N : List Line) (t : List Entry) → t ≡ entries_of (take 0 N) ++ drop 0 t
 unfolding entries_of
-no_lines N = refl
+no_lines N t = refl
 
 -- ---- one line more
 terms_more : (L : List Line) (f : List ℕ) (w : ℤ) → all_terms (L ++ line f w ∷ []) ≡ all_terms L ++ f
@@ -67,15 +67,15 @@ module _ (N : List Line) (i : ℕ) (b : i < length N) where
         ap₂ (λ (p q : List ℕ). p ++ (f ++ q)) (take_at (all_terms M) (drop e l) e (sym c)) y
         ∙ sym (append_assoc (all_terms M) f (drop (e + length f) l)) ∙ ap (λ (p : List ℕ). p ++ drop (e + length f) l) (sym more_terms)
 
-    pub next_entries : i < 128
-        → set (entries_of M ++ replicate (128 - i) unused) i (record { weight = w; count = length f }) ≡ entries_of (take (i + 1) N) ++ replicate (128 - (i + 1)) unused
-    next_entries h =
+    pub next_entries : (t : List Entry) → i < length t
+        → set (entries_of M ++ drop i t) i (record { weight = w; count = length f }) ≡ entries_of (take (i + 1) N) ++ drop (i + 1) t
+    next_entries t h =
         let e : Entry = record { weight = w; count = length f } in
-        let r : List Entry = replicate (128 - (i + 1)) unused in
-        let s : 128 - i ≡ suc (128 - (i + 1)) = omega arith in
+        let o : Entry = get_or t i unused in
+        let s : drop i t ≡ o ∷ drop (i + 1) t = drop-cons t i unused h ∙ ap (λ (j : ℕ). o ∷ drop j t) (sym (add-one i)) in
         let k : length (entries_of M) ≡ i = length_entries M ∙ length-take-le i N (omega arith) in
-        ap (λ (j : ℕ). set (entries_of M ++ replicate j unused) i e) s ∙ set_at (entries_of M) unused r e i k ∙ sym (append_snoc (entries_of M) e r)
-        ∙ ap (λ (t : List Entry). t ++ r) (sym (ap entries_of more ∙ entries_more M f w))
+        ap (λ (r : List Entry). set (entries_of M ++ r) i e) s ∙ set_at (entries_of M) o (drop (i + 1) t) e i k ∙ sym (append_snoc (entries_of M) e (drop (i + 1) t))
+        ∙ ap (λ (x : List Entry). x ++ drop (i + 1) t) (sym (ap entries_of more ∙ entries_more M f w))
 
 -- ---- what lies behind the last line, in an area l that was zero from the place u on
 module _ (x l : List ℕ) (u : ℕ) (z : ClearFrom u l) where
@@ -113,6 +113,10 @@ module _ (x l : List ℕ) (u : ℕ) (z : ClearFrom u l) where
         ∙ ap (λ (k : ℕ). drop k l) s ∙ rest_zero in
         ap₂ (λ (p q : List ℕ). p ++ (replicate (u - e) 0 ++ q)) (take_at x (drop e l) e c) d
         ∙ ap (λ (y : List ℕ). x ++ y) (replicate-append-replicate (u - e) (8192 - u) 0 ∙ ap (λ (k : ℕ). replicate k 0) t)
+
+-- ---- the records behind those of all lines are filled
+pub unused_behind : (N : List Line) (t : List Entry) (n : ℕ) → length N ≡ n → take n (entries_of N ++ drop n t) ++ replicate (128 - n) unused ≡ entries_of N ++ replicate (128 - n) unused
+unused_behind N t n c = ap (λ (x : List Entry). x ++ replicate (128 - n) unused) (take_at (entries_of N) (drop n t) n (length_entries N ∙ c))
 
 -- ---- the whole
 pub written_back : (n lines : ℕ) (N : List Line) (l : List ℕ) (t : List Entry) (e : ℕ) → length N ≡ lines → length (all_terms N) ≡ e

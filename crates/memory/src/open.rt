@@ -2,6 +2,7 @@
 ghost use Rattle.std.specs.Prelude.{◌≡◌, [], T};
 ghost use Rattle.memory.specs.Memory.{standing_of, well_formed, memory_of};
 
+use crate::entries::line_at;
 use crate::{Entry, Head};
 use table::Lines;
 
@@ -13,7 +14,8 @@ pub fn open(head: Head, terms: &[u32], entries: &[Entry; 128], table: &mut Lines
     ensures { table.new ≡ standing_of (memory_of head terms.now entries.now) }
 {
     let mut rest = terms;
-    for entry in &entries[..head.lines as usize] {
+    for i in 0..head.lines as usize {
+        let entry = line_at(entries, i);
         let (f, behind) = rest.split_at(entry.count as usize);
         table.push(f, entry.weight);
         rest = behind;
