@@ -29,8 +29,12 @@ pub fn replace(table: &mut Lines, changes: &Changes) -> Result<(), Reason>
     ensures { record { reached = table.new; stop = stop_of result } ≡ after table.old (within (add_all changes.now table.old)) }
 {
     let lines = table.len();
+    let new_lines = changes.len();
+    if new_lines == 0 {
+        return Ok(());
+    }
     let mut known = weigh(table, changes);
-    let weighed = &mut known[..changes.len()];
+    let weighed = &mut known[..new_lines];
     judge(lines, weighed)?;
     fold_all(table, changes, weighed);
     Ok(())

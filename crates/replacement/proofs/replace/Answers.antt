@@ -5,13 +5,13 @@ use Rattle.replacement.proofs.Judgements.{Judged, judged_done, judged_few, judge
 use Rattle.replacement.proofs.replace.Goals as goal
 use Rattle.replacement.proofs.replace.Goals.{After-judge}
 
-judged : (c : goal.After-judge) → Judged c.args.changes.now c.args.table.now c.len-lines.result (take c.len.result c.weigh-known.result) c.judge.result
+judged : (c : goal.After-judge) → Judged c.args.changes.now c.args.table.now c.len-lines.result (take c.len-new_lines.result c.weigh-known.result) c.judge.result
 judged c = record {
-  new_ordered = c.len.ensures.ordered;
+  new_ordered = c.len-new_lines.ensures.ordered;
   old_ordered = c.len-lines.ensures.ordered;
   old_fit = c.requires.0;
   counted = c.len-lines.ensures.lines;
-  weighed = rw c.len.ensures.lines c.weigh-known.ensures;
+  weighed = rw c.len-new_lines.ensures.lines c.weigh-known.ensures;
   is_told = c.judge.ensures;
 }
 
