@@ -17,6 +17,7 @@ ghost use Rattle.replacement.specs.Passes.{IsSmall};
 use changes::{Weighed, weigh};
 use limits::judge;
 use passes::fold_all;
+use polynomial::Polynomial;
 use refusal::Reason;
 use table::{Changes, Lines};
 use term::key;
@@ -48,7 +49,7 @@ pub fn add(table: &mut Lines, f: &[u32], amount: i64) -> Result<(), Reason>
     ensures { record { reached = table.new; stop = stop_of result } ≡ after table.old (within (addTo f.now amount table.old)) }
 {
     let lines = table.len();
-    if f.is_empty() {
+    if f.len() == Polynomial::ZERO.count {
         return Ok(());
     }
     let first = key(f[0]);

@@ -1,13 +1,11 @@
 -- `add` meets its contract: the weight before and afterwards is judged, and only then the polynomial folded in at its place.
-use mathlib.Core.Path.{◌≡◌, refl, ◌∙◌}
+use mathlib.Core.Path.{refl, ◌∙◌}
 use mathlib.Core.List.{[], ◌∷◌}
 use Prim.Native.Nat.{◌^◌, ◌<◌}
 use native.Mathlib.Omega.{arith}
 use lib.Dec.{T}
 use lib.IntN.{◌+ℤ◌}
-use lib.ListN.{length}
 use lib.Signed.{mag}
-use Rattle.std.proofs.Common.{rules}
 use mir.Syntax.{w64}
 use mir.Val.{to_z, of_z}
 use mir.Facts.{to_z-of_z}
@@ -18,12 +16,10 @@ use Rattle.replacement.specs.Replacing.{weighed_in}
 use Rattle.replacement.proofs.Weighings.{held_is, sum_small, sum_is}
 use Rattle.replacement.proofs.Judgements.{Judged, judged_refused, judged_done, judged_few}
 use Rattle.replacement.proofs.add.Goals as goal
-use Rattle.replacement.proofs.add.Goals.{After-look_up-known, After-judge, Else-is_empty, Start}
+use Rattle.replacement.proofs.add.Goals.{After-look_up-known, After-judge, Else-f, Start}
 
-not_zero : (c : goal.Else-is_empty) → T (some c.args.f.now)
-not_zero c =
-    let n : length c.args.f.now ≡ 0 → ⊥ = search rules in
-    some_of c.args.f.now n
+not_zero : (c : goal.Else-f) → T (some c.args.f.now)
+not_zero c = some_of c.args.f.now c.if-f.false
 
 small : (s : goal.Start) → mag s.args.amount < 2 ^ 45
 small s = omega (arith, s.requires.2)
@@ -37,7 +33,7 @@ judged c =
     let s = small (goal.at.After-judge c).Start in
     let x = c.look_up-known.ensures in
     record {
-      new_ordered = (not_zero (goal.at.After-judge c).Else-is_empty, (c.requires.3, (tt, tt)));
+      new_ordered = (not_zero (goal.at.After-judge c).Else-f, (c.requires.3, (tt, tt)));
       old_ordered = c.len-lines.ensures.ordered;
       old_fit = c.requires.0;
       counted = c.len-lines.ensures.lines;
@@ -58,7 +54,7 @@ returns-in_err-judge c =
 pub add_at-requires : goal.add_at-requires
 unfolding add_all
 add_at-requires c =
-    let n = not_zero (goal.at.add_at-requires c).Else-is_empty in
+    let n = not_zero (goal.at.add_at-requires c).Else-f in
     rw (to_z-of_z c.ranges.amount) (
       omega arith,
       (
