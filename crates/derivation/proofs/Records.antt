@@ -2,12 +2,12 @@
 use mathlib.Core.Path.{◌≡◌, refl, sym, ap, ◌∙◌}
 use mathlib.Core.Bool.{Bool, true, false, not, ◌&&◌}
 use mathlib.Core.List.{List, [], ◌∷◌}
-use Prim.Native.Nat.{ℕ, suc, ◌+◌, ◌≤◌}
+use Prim.Native.Nat.{ℕ, zero, suc, ◌+◌, ◌≤◌}
 use native.Mathlib.Omega.{arith}
 use lib.Dec.{leb, leb→le, le→leb}
 use lib.IntN.{ℤ}
 use lib.Signed.{le_z}
-use lib.ListN.{length}
+use lib.ListN.{length, take}
 use Rattle.std.specs.declared.option.Option.{Option}
 use Rattle.std.specs.declared.option.Option.TheVariants.{Some, None}
 use Rattle.std.specs.Prelude.{◌==◌, option_map, is_some, unwrap_or}
@@ -121,9 +121,10 @@ module _ (v b : Begun) (same : v ≡ b) where
   pub idle_is : is_free b ≡ true → (t : Bool) → t ≡ not (some v.work) → t ≡ is_idle b
   idle_is h t e = e ∙ rw (same, h)
 
-pub no_term : (f : List ℕ) → (length f == 0) ≡ not (some f)
-no_term [] = refl
-no_term (t ∷ f) = ne_eqb (suc (length f)) 0 (λ e. omega arith)
+pub no_term : (f : List ℕ) (n : ℕ) → n ≤ length f → (n == 0) ≡ not (some (take n f))
+no_term f zero h = refl
+no_term [] (suc n) h = absurd (omega arith)
+no_term (t ∷ f) (suc n) h = ne_eqb (suc n) 0 (λ e. omega arith)
 
 -- ---- B
 module _ (s : List ℕ) (at : ℕ) (b : Begun) (L : List Line) where

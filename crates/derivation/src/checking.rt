@@ -105,7 +105,7 @@ impl Checking {
     fn is_idle(&self) -> bool
         ensures { result ≡ is_idle self.now }
     {
-        self.is_free() && self.work.terms[..self.work.count].is_empty()
+        self.is_free() && self.work.count == Polynomial::ZERO.count
     }
 
     // N, Z: the mode.

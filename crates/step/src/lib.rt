@@ -17,6 +17,7 @@ use configuration::form::is_below;
 use configuration::weight::within_limit;
 use hard::HardList;
 use plan::plan_of;
+use polynomial::Polynomial;
 use polynomial::order::in_order;
 use refusal::Reason;
 use replacement::replace;
@@ -44,7 +45,7 @@ fn amount_fits(mode: Mode, amount: i64) -> bool
 fn is_held(table: &Lines, f: &[u32], asked: i64) -> bool
     ensures { let p = f.now in result ≡ cond (some p) (le_z asked (weight table.now p)) true }
 {
-    f.is_empty() || asked <= table.weight_of(f)
+    f.len() == Polynomial::ZERO.count || asked <= table.weight_of(f)
 }
 
 // Whether the weight that a rule takes away is there. SUM of a polynomial with itself asks for twice the amount.
