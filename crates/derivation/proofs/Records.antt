@@ -10,7 +10,7 @@ use lib.Signed.{le_z}
 use lib.ListN.{length, take}
 use Rattle.std.specs.declared.option.Option.{Option}
 use Rattle.std.specs.declared.option.Option.TheVariants.{Some, None}
-use Rattle.std.specs.Prelude.{◌==◌, option_map, is_some, unwrap_or}
+use Rattle.std.specs.Prelude.{◌==◌, max, option_map, is_some, unwrap_or, IfOk, IfErr}
 use Rattle.refusal.specs.Refusal.{refusal_of}
 use Rattle.refusal.specs.Outcome.{Reached, after, stop_of}
 use Rattle.refusal.specs.OutcomeLaws.{after-accepted, after-refused}
@@ -32,7 +32,7 @@ use Rattle.record.proofs.Bodies.{byte_cut, byte_whole, amount_cut, amount_whole}
 use Rattle.walk.specs.Walk.{Progress}
 use Rattle.walk.specs.Work.{term_added}
 use Rattle.refusal.specs.declared.Reason.TheVariants.{CutShort, Misplaced, OutOfRange, NegativeLine, ClaimTooHigh}
-use Rattle.derivation.specs.Derivation.{State, going, claim_fits, on_term, on_step, on_hard, on_claim}
+use Rattle.derivation.specs.Derivation.{State, going, claim_fits, on_term, on_step, on_hard, on_claim, degree_in}
 use Rattle.derivation.specs.Held.{Begun, state_in, is_going, is_free, is_idle, hard_ask, step_asked, IsUsable}
 
 -- ---- S, P, E: what their bodies ask for
@@ -76,6 +76,17 @@ module _ (H : List (List ℕ)) (s : List ℕ) (at : ℕ) (x y : State) (o : Resu
   as_hard a e d i =
       d i ∙ ap (λ (b : Option (Rule × ℤ)). after (progress_at at i x) (step_asked H b 10 (progress_at at i x))) e
       ∙ ap (after (progress_at at i x)) (sym (hard_asks H s (progress_at at i x)))
+
+-- ---- the largest degree after a record that asks for a step: a refused one leaves the lines as they were
+pub degree_left : (H : List (List ℕ)) (ask : Option (Rule × ℤ)) (size : ℕ) (b c : Begun) (L M : List Line) (o : Result ℕ Reason)
+    → ((at : ℕ) → Does (step_asked H ask size) at (state_in b L) o (state_in c M)) → degree_in L ≤ b.degree
+    → IfOk o (λ _. c.degree ≡ max b.degree (degree_in M)) → IfErr o (λ _. c.degree ≡ b.degree) → c.degree ≡ max b.degree (degree_in M)
+degree_left H ask size b c L M (Ok n) d m e k = e
+degree_left H ask size b c L M (Err reason) d m e k =
+    let p : Progress State = progress_at 0 0 (state_in b L) in
+    let q : Progress State = progress_at 0 0 (state_in c M) in
+    let same : q ≡ p = (after-refused p q (refusal_of reason) (step_asked H ask size p) (d 0 0)).1 in
+    omega (arith, k, m, ap (λ (x : Progress State). degree_in x.state.lines) same)
 
 -- ---- the lines of a step that is taken
 pub step_lines : (H : List (List ℕ)) (r : Rule) (d : Mode) (f g : List ℕ) (w : ℤ) (L M : List Line) (o : Result (Unit {0}) Reason) (u : Unit {0})

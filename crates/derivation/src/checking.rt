@@ -1,5 +1,5 @@
 // A check while it reads: what each kind of record does, and the records one after the other.
-ghost use Rattle.std.specs.Prelude.{◌≡◌, List, ℕ, ◌+◌, ◌≤◌, ◌<◌, T, max, option_map, IfOk, length};
+ghost use Rattle.std.specs.Prelude.{◌≡◌, List, ℕ, ◌+◌, ◌≤◌, ◌<◌, T, max, option_map, IfOk, IfErr, length};
 ghost use Rattle.polynomial.specs.Polynomial.{RunBelow};
 ghost use Rattle.configuration.specs.Configuration.{Line, Every, is_configuration};
 ghost use Rattle.hard.specs.Hard.{is_hard_list};
@@ -148,7 +148,7 @@ impl Checking {
     }
 
     // S, P, E: the step of f with the work polynomial that a record of so many bytes asks for, if its body is whole; both are
-    // cleared, and the lines that the step leaves count for the degree.
+    // cleared, and the lines that the step leaves count for the degree. Where it is refused, the degree is as it was.
     fn take(
         &mut self,
         ask: Option<(Rule, i64)>,
@@ -159,6 +159,7 @@ impl Checking {
         requires { IsUsable hard.now (state_in self.old lines.old) }
         ensures does { (at : ℕ) → Does (step_asked hard.now ask size) at (state_in self.old lines.old) result (state_in self.new lines.new) }
         ensures degree { IfOk result (λ _. self.new.degree ≡ max self.old.degree (degree_in lines.new)) }
+        ensures kept { IfErr result (λ _. self.new.degree ≡ self.old.degree) }
     {
         let (Some(mode), None, Some(first)) = (self.mode, self.claim, &self.first) else {
             return Err(Reason::Misplaced);
@@ -216,7 +217,7 @@ impl Checking {
         requires usable { IsUsable hard.now (state_in self.old lines.old) }
         requires met { degree_in lines.old ≤ self.old.degree }
         ensures does { Does (on_record variables hard.now bytes.now) at (state_in self.old lines.old) result (state_in self.new lines.new) }
-        ensures degree { IfOk result (λ _. self.new.degree ≡ max self.old.degree (degree_in lines.new)) }
+        ensures degree { self.new.degree ≡ max self.old.degree (degree_in lines.new) }
     {
         let Some(kind) = kind_of(bytes[at]) else {
             return Err(Reason::Misplaced);

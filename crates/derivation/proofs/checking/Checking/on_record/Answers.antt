@@ -6,7 +6,7 @@ use Rattle.derivation.specs.Held.{kind_of, state_in}
 use Rattle.derivation.specs.declared.kind.Kind.{Kind}
 use Rattle.derivation.specs.declared.kind.Kind.TheVariants as K
 use Rattle.derivation.proofs.Letters.{as_kind}
-use Rattle.derivation.proofs.Records.{as_step, as_hard}
+use Rattle.derivation.proofs.Records.{as_step, as_hard, degree_left}
 use Rattle.derivation.proofs.checking.Checking.on_record.Goals as goal
 use Rattle.derivation.proofs.checking.Checking.on_record.Goals.{In-Some}
 
@@ -35,11 +35,23 @@ returns-in-Step-clause-does c =
     as_kind a.variables a.hard.now a.bytes.now a.at (Some (K.Step r)) (is_kind (goal.at.returns-in-Step-clause-does c).In-Some _ c.in-Step.is) _ _ _
     (as_step a.hard.now a.bytes.now a.at _ _ _ r c.step_ask.result c.step_ask.ensures (c.take.ensures.does a.at))
 
+pub returns-in-Step-clause-degree : goal.returns-in-Step-clause-degree
+returns-in-Step-clause-degree c =
+    let a = c.args in
+    let k = c.take in
+    degree_left a.hard.now c.step_ask.result 9 a.self.now k.new.self a.lines.now k.new.lines k.result k.ensures.does c.requires.met k.ensures.degree k.ensures.kept
+
 pub returns-in-Hard-clause-does : goal.returns-in-Hard-clause-does
 returns-in-Hard-clause-does c =
     let a = c.args in
     as_kind a.variables a.hard.now a.bytes.now a.at (Some K.Hard) (is_kind (goal.at.returns-in-Hard-clause-does c).In-Some _ c.in-Hard.is) _ _ _
     (as_hard a.hard.now a.bytes.now a.at _ _ _ c.hard_ask.result c.hard_ask.ensures (c.take-in-Hard.ensures.does a.at))
+
+pub returns-in-Hard-clause-degree : goal.returns-in-Hard-clause-degree
+returns-in-Hard-clause-degree c =
+    let a = c.args in
+    let k = c.take-in-Hard in
+    degree_left a.hard.now c.hard_ask.result 10 a.self.now k.new.self a.lines.now k.new.lines k.result k.ensures.does c.requires.met k.ensures.degree k.ensures.kept
 
 pub returns-in-Claim-clause-does : goal.returns-in-Claim-clause-does
 returns-in-Claim-clause-does c =

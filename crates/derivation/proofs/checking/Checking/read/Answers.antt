@@ -42,7 +42,7 @@ loop-at-preserved c =
     let l = c.loop-at in
     let e = mapped_ok _ c.on_record.result c.map_err.result c.map_err.ensures.cases c.in_ok-size.size c.in_ok-size.was in
     goes_on a.variables a.hard.now a.bytes.now _ _ l.at l.records l.self l.lines l.invariant c.loop-at-test.true c.on_record.result c.on_record.new.self c.on_record.new.lines
-    c.on_record.ensures.does c.in_ok-size.size e c.requires.hard (rw e at c.on_record.ensures.degree)
+    c.on_record.ensures.does c.in_ok-size.size e c.requires.hard c.on_record.ensures.degree
 
 pub returns : goal.returns
 returns c =
