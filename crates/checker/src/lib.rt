@@ -9,6 +9,6 @@ mod stepping;
 mod writing;
 
 pub use checking::check_derivation;
-pub use filing::file_problem;
+pub use filing::{Filed, file_problem};
 pub use stepping::take_step;
 pub use writing::write_line;

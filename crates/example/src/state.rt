@@ -122,7 +122,9 @@ impl State {
         let (entries, _) = self.entries.split_at_mut(lent.entries);
         let (counts, _) = self.counts.split_at_mut(lent.counts);
         let (places, _) = self.places.split_at_mut(lent.places);
-        checker::file_problem(bytes, &mut self.head, terms, entries, counts, places).into()
+        let filed = checker::file_problem(bytes, terms, entries, counts, places);
+        self.head = filed.head;
+        filed.answer.into()
     }
 
     // Checks the derivation that the bytes are.
