@@ -1,5 +1,5 @@
 -- One step on a configuration: what is asked of its operands, what is found against it, and its plan.
-use Rattle.std.specs.Prelude.{◌≡◌, List, [], ℕ, ◌≤◌, ℤ, length}
+use Rattle.std.specs.Prelude.{◌≡◌, List, [], ℕ, ◌≤◌, ℤ, IfErr, length}
 use Rattle.std.specs.declared.result.Result.{Result}
 use Rattle.refusal.specs.Outcome.{Outcome, accepted, Test, passing, objected}
 use Rattle.refusal.specs.declared.Reason.{Reason}
@@ -16,7 +16,8 @@ IsOperand f = (length f ≤ 64) × IsOrdered f
 abbrev pub Finds : List Test → Result (Unit {0}) Reason → Type 0
 Finds ts told = (o : Outcome (List Line)) → objected told o ≡ passing ts o
 
--- what a plan tells, and the changes C that it leaves: those of the rule, folded among themselves, unless a result is too long
+-- what a plan tells, and the changes C that it leaves: those of the rule, folded among themselves; none where a result is too long, which it tells
 abbrev pub HasPlan : List (List ℕ) → Rule → List ℕ → List ℕ → ℤ → Result (Unit {0}) Reason → List Line → Type 0
 HasPlan H r f g w told C =
-    objected told (accepted C) ≡ passing (length_tests (conclusions H r f g w)) (accepted (add_all (changes H r f g w) []))
+    (objected told (accepted C) ≡ passing (length_tests (conclusions H r f g w)) (accepted (add_all (changes H r f g w) [])))
+    × IfErr told (λ _. C ≡ [])

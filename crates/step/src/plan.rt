@@ -1,7 +1,7 @@
 // What a rule takes away and gives, folded among themselves before the configuration is touched. It is for `step` of this crate
 // alone, which lends an empty table once the rule, the amount and the operands are tested. SUM and PROD read no hard list: the plans of
 // both are promised for the empty one. A table by value in the `Result`, three calls deep, took 105 to 131 ns in place of 33.
-ghost use Rattle.std.specs.Prelude.{◌≡◌, [], ◌∷◌, ◌≤◌, T, IfErr, length};
+ghost use Rattle.std.specs.Prelude.{◌≡◌, [], ◌∷◌, ◌≤◌, T, length};
 ghost use Rattle.configuration.specs.Weight.{in_range};
 ghost use Rattle.calculus.specs.Calculus.{rule_named};
 ghost use Rattle.calculus.specs.declared.Rule.TheVariants.{Sum, Prod, Hard};
@@ -17,8 +17,7 @@ use table::Changes;
 #[tactic(auto, using(crate::proofs::Uses::uses_plans), unfolding(configuration::specs::Configuration::negated))]
 fn plan_sum(f: &[u32], g: &[u32], amount: i64, changes: &mut Changes) -> Result<(), Reason>
     requires { IsOperand f.now × IsOperand g.now × T (in_range amount) × (changes.old ≡ []) }
-    ensures plan { HasPlan [] Sum f.now g.now amount result changes.new }
-    ensures refused { IfErr result (λ _. changes.new ≡ []) }
+    ensures { HasPlan [] Sum f.now g.now amount result changes.new }
 {
     let mut product = [0u32; 64];
     let product_length = Polynomial::product(f, g, &mut product);
@@ -42,8 +41,7 @@ fn plan_sum(f: &[u32], g: &[u32], amount: i64, changes: &mut Changes) -> Result<
 #[tactic(auto, using(crate::proofs::Uses::uses_plans), unfolding(configuration::specs::Configuration::negated))]
 fn plan_prod(f: &[u32], g: &[u32], amount: i64, changes: &mut Changes) -> Result<(), Reason>
     requires { IsOperand f.now × IsOperand g.now × T (in_range amount) × (changes.old ≡ []) }
-    ensures plan { HasPlan [] Prod f.now g.now amount result changes.new }
-    ensures refused { IfErr result (λ _. changes.new ≡ []) }
+    ensures { HasPlan [] Prod f.now g.now amount result changes.new }
 {
     let mut product = [0u32; 64];
     let n = Polynomial::product(f, g, &mut product);
@@ -79,8 +77,7 @@ fn plan_hard(
     changes: &mut Changes,
 ) -> Result<(), Reason>
     requires { IsOperand f.now × IsOperand q.now × (length h.now ≤ 64) × T (in_range amount) × (changes.old ≡ []) }
-    ensures plan { HasPlan (h.now ∷ []) (Hard 1) f.now q.now amount result changes.new }
-    ensures refused { IfErr result (λ _. changes.new ≡ []) }
+    ensures { HasPlan (h.now ∷ []) (Hard 1) f.now q.now amount result changes.new }
 {
     let mut result = [0u32; 64];
     let n = Polynomial::plus_product(f, q, h, &mut result);
@@ -103,8 +100,7 @@ pub fn plan_of(
     changes: &mut Changes,
 ) -> Result<(), Reason>
     requires { T (rule_named hard.now rule) × IsOperand f.now × IsOperand g.now × T (in_range amount) × (changes.old ≡ []) }
-    ensures plan { HasPlan hard.now rule f.now g.now amount result changes.new }
-    ensures refused { IfErr result (λ _. changes.new ≡ []) }
+    ensures { HasPlan hard.now rule f.now g.now amount result changes.new }
 {
     match rule {
         Rule::Sum => plan_sum(f, g, amount, changes),

@@ -21,7 +21,7 @@ plan_of-requires c =
     (is_named t c.in_ok-object.was, c.requires.1, c.requires.2, rw (exact (goal.at.plan_of-requires c).Start) (amount_fits t c.in_ok-object.was), c.new-changes.ensures)
 
 plan : (c : goal.After-plan_of) → (let a = c.args in HasPlan a.hard.now a.asked.rule a.f.now a.g.now a.asked.amount c.plan_of.result c.plan_of.new.changes)
-plan c = rw (exact (goal.at.After-plan_of c).Start) at c.plan_of.ensures.plan
+plan c = rw (exact (goal.at.After-plan_of c).Start) at c.plan_of.ensures
 
 pub returns-in_err-plan_of : goal.returns-in_err-plan_of
 returns-in_err-plan_of c =

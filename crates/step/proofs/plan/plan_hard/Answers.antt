@@ -68,7 +68,7 @@ add-requires-2 c =
     let e = (told (goal.at.add-requires-2 c).After-plus_product-n).0 in
     (omega arith, fold_asked (one (goal.at.add-requires-2 c).After-add) (omega arith) (result_is (goal.at.add-requires-2 c).Else-n-gt64) (gained s) (small s).1.0 (omega (arith, e)))
 
-pub returns-clause-plan : goal.returns-clause-plan
-returns-clause-plan c =
-    let s = (goal.at.returns-clause-plan c).Start in
-    not_long _ (result s) (told (goal.at.returns-clause-plan c).After-plus_product-n).0 [] (accepted (add_all (ruled s) [])) c.if-n-gt64.false (ap accepted (two (goal.at.returns-clause-plan c).After-add-2).holds)
+pub returns : goal.returns
+returns c =
+    let s = (goal.at.returns c).Start in
+    (not_long _ (result s) (told (goal.at.returns c).After-plus_product-n).0 [] (accepted (add_all (ruled s) [])) c.if-n-gt64.false (ap accepted (two (goal.at.returns c).After-add-2).holds), tt)

@@ -101,20 +101,22 @@ three c =
     let s = (goal.at.After-add-3 c).Start in
     fold_given (two (goal.at.After-add-3 c).After-add-2) (omega arith) (third (goal.at.After-add-3 c).Else-m-gt64) (gained s) (small s).1.1.0 c.add-3.ensures
 
-pub returns-then-m-gt64-clause-plan : goal.returns-then-m-gt64-clause-plan
-returns-then-m-gt64-clause-plan c =
-    let s = (goal.at.returns-then-m-gt64-clause-plan c).Start in
-    let o = accepted (add_all (ruled s) []) in
-    not_long _ (product s) (told_product (goal.at.returns-then-m-gt64-clause-plan c).After-product-n).0 (short (rest s) ∷ []) o c.if-n-gt64.false
-    (too_long_lem c.sum-m.result (rest s) (rest_size (goal.at.returns-then-m-gt64-clause-plan c).After-sum-m) [] o c.if-m-gt64.true)
+pub returns-then-m-gt64 : goal.returns-then-m-gt64
+returns-then-m-gt64 c =
+    let s = (goal.at.returns-then-m-gt64 c).Start in
+    let o = accepted (add_all (ruled s) []) in (
+      not_long _ (product s) (told_product (goal.at.returns-then-m-gt64 c).After-product-n).0 (short (rest s) ∷ []) o c.if-n-gt64.false
+          (too_long_lem c.sum-m.result (rest s) (rest_size (goal.at.returns-then-m-gt64 c).After-sum-m) [] o c.if-m-gt64.true),
+      c.requires.3,
+    )
 
-pub returns-then-n-clause-plan : goal.returns-then-n-clause-plan
-returns-then-n-clause-plan c =
-    let d = (goal.at.returns-then-n-clause-plan c).Else-m-gt64 in fits d _ (none d (inl (sym (told_product (goal.at.returns-then-n-clause-plan c).After-product-n).0 ∙ c.if-n.true)))
+pub returns-then-n : goal.returns-then-n
+returns-then-n c =
+    let d = (goal.at.returns-then-n c).Else-m-gt64 in (fits d _ (none d (inl (sym (told_product (goal.at.returns-then-n c).After-product-n).0 ∙ c.if-n.true))), tt)
 
-pub returns-then-m-clause-plan : goal.returns-then-m-clause-plan
-returns-then-m-clause-plan c =
-    let d = (goal.at.returns-then-m-clause-plan c).Else-m-gt64 in fits d _ (none d (inr (sym (rest_size (goal.at.returns-then-m-clause-plan c).After-sum-m) ∙ c.if-m.true)))
+pub returns-then-m : goal.returns-then-m
+returns-then-m c =
+    let d = (goal.at.returns-then-m c).Else-m-gt64 in (fits d _ (none d (inr (sym (rest_size (goal.at.returns-then-m c).After-sum-m) ∙ c.if-m.true))), tt)
 
 pub add-requires : goal.add-requires
 unfolding negated
@@ -135,5 +137,5 @@ add-requires-3 c =
     let e = rest_size (goal.at.add-requires-3 c).After-sum-m in
     (omega arith, fold_asked (two (goal.at.add-requires-3 c).After-add-2) (omega arith) (third (goal.at.add-requires-3 c).Else-m-gt64) (gained s) (small s).1.1.0 (omega (arith, e)))
 
-pub returns-clause-plan : goal.returns-clause-plan
-returns-clause-plan c = fits (goal.at.returns-clause-plan c).Else-m-gt64 _ (three (goal.at.returns-clause-plan c).After-add-3).holds
+pub returns : goal.returns
+returns c = (fits (goal.at.returns c).Else-m-gt64 _ (three (goal.at.returns c).After-add-3).holds, tt)

@@ -105,9 +105,11 @@ add-requires-4 c =
     let e = (told_sum (goal.at.add-requires-4 c).After-sum-sum_length).0 in
     (omega arith, fold_asked (three (goal.at.add-requires-4 c).After-add-3) (omega arith) (sum_is (goal.at.add-requires-4 c).Else-sum_length-gt64) (gained s) (small s).1.1.1.0 (omega (arith, e)))
 
-pub returns-clause-plan : goal.returns-clause-plan
-returns-clause-plan c =
-    let s = (goal.at.returns-clause-plan c).Start in
-    let o = accepted (add_all (ruled s) []) in
-    not_long _ (product s) (told_product (goal.at.returns-clause-plan c).After-product-product_length).0 (short (sum s) ∷ []) o (omega arith)
-    (not_long _ (sum s) (told_sum (goal.at.returns-clause-plan c).After-sum-sum_length).0 [] o c.if-sum_length-gt64.false (ap accepted (four (goal.at.returns-clause-plan c).After-add-4).holds))
+pub returns : goal.returns
+returns c =
+    let s = (goal.at.returns c).Start in
+    let o = accepted (add_all (ruled s) []) in (
+      not_long _ (product s) (told_product (goal.at.returns c).After-product-product_length).0 (short (sum s) ∷ []) o (omega arith)
+          (not_long _ (sum s) (told_sum (goal.at.returns c).After-sum-sum_length).0 [] o c.if-sum_length-gt64.false (ap accepted (four (goal.at.returns c).After-add-4).holds)),
+      tt,
+    )
