@@ -8,7 +8,8 @@ use lib.Dec.{T, leb, eqb, eqb→eq}
 use lib.IntN.{ℤ}
 use lib.ListN.{length, drop}
 use borrow.Author.Tests.{eq-eqb, le-leb, lt-leb}
-use Rattle.std.specs.declared.result.Result.TheVariants.{Ok}
+use Rattle.std.specs.declared.result.Result.{Result}
+use Rattle.std.specs.declared.result.Result.TheVariants.{Ok, Err}
 use Rattle.run.specs.BooleanLaws.{of_true, left}
 use Rattle.refusal.specs.Refusal.{numbered, refusal_of}
 use Rattle.refusal.specs.Outcome.{Outcome, accepted, unless, mapped, Reached, nothing, refused_for, after, Told, answered, refused_at}
@@ -19,11 +20,11 @@ use Rattle.configuration.specs.Configuration.{Line, weights_fit, is_configuratio
 use Rattle.configuration.specs.Made.{Made}
 use Rattle.hard.specs.Hard.{is_hard_list, HardArea, hard_image, hard_sized}
 use Rattle.hard.specs.HardLaws.{formed_number}
-use Rattle.memory.specs.Memory.{Memory, back_to_back, image_of}
+use Rattle.memory.specs.Memory.{Memory, back_to_back, image_of, standing_of, well_formed}
 use Rattle.memory.specs.Places.{used_by, ClearFrom}
 use Rattle.memory.specs.LayoutLaws.{well_image, well_configuration, well_parts}
 use Rattle.memory.specs.MemoryLaws.{back_to_back_lem, well_clear}
-use Rattle.calculus.specs.Calculus.{operand_tests, direct_step}
+use Rattle.calculus.specs.Calculus.{operand_tests, direct_step, step}
 use Rattle.calculus.specs.CalculusLaws.{operands_passed}
 use Rattle.calculus.specs.declared.Rule.{Rule}
 use Rattle.calculus.specs.declared.Mode.{Mode}
@@ -37,10 +38,18 @@ use Rattle.checker.specs.CheckerLaws.{formed_memory, formed_hard, held_list, ste
 use Rattle.checker.specs.Opened.{IsOpened}
 
 -- ---- the operands of a step
-pub operands_fit : (n : ℕ) (f g : List ℕ) → Finds (operand_tests n f g) (Ok tt) → IsOperand f × IsOperand g
-operands_fit n f g found =
-    let p = operands_passed n f g (nothing_found {A = List Line} [] (operand_tests n f g) (Ok tt) found refl) in
+pub operands_fit : (n : ℕ) (f g : List ℕ) (told : Result (Unit {0}) Reason) (u : Unit {0}) → Finds (operand_tests n f g) told → told ≡ Ok u → IsOperand f × IsOperand g
+operands_fit n f g told u found e =
+    let p = operands_passed n f g (nothing_found {A = List Line} [] (operand_tests n f g) (Ok u) (rw e at found) refl) in
     (polynomial_operand n f p.0, polynomial_operand n g p.1)
+
+-- ---- what is lent is well formed, and its lines are read
+module _ {x : Lent} {H : List (List ℕ)} {L : List Line} (o : IsOpened x H L) where
+  pub memory_opened : T (well_formed x.memory)
+  memory_opened = formed_memory back_to_back x o.formed
+
+  pub lines_opened : {M : List Line} → M ≡ standing_of x.memory → IsOpened x H M
+  lines_opened e = record { formed = o.formed; hard = o.hard; lines = e }
 
 module _ {x : Lent} {H : List (List ℕ)} {L : List Line} (o : IsOpened x H L) where
   pub weights_opened : T (weights_fit L)
@@ -76,6 +85,16 @@ module _ {x : Lent} {H : List (List ℕ)} {L : List Line} (o : IsOpened x H L) w
     step_opened : onto outcome ≡ step_in r d f g w x
     step_opened = rw (o.hard, o.lines) (sym (step_well back_to_back_lem r d f g w x o.formed))
 
+    -- the tests of the operands stand in front of it
+    module _ (told : Result (Unit {0}) Reason) (found : Finds (operand_tests x.memory.variables f g) told) where
+      pub misfit_left : (reason : Reason) → told ≡ Err reason → left_of x (refused_at 0 (refusal_of reason)) ≡ step_in r d f g w x
+      unfolding direct_step
+      misfit_left reason e = ap onto (rw e at (found (step H r d f g w L))) ∙ step_opened
+
+      pub fit_left : (u : Unit {0}) → told ≡ Ok u → {p : Reached (List Line)} → p ≡ after L (step H r d f g w L) → p ≡ after L outcome
+      unfolding direct_step
+      fit_left u e k = k ∙ ap (after L) (rw e at (found (step H r d f g w L)))
+
     pub refused_left : (reason : Reason) (N : List Line) → ◌≡◌ {A = Reached (List Line)} (record { reached = N; stop = refused_for (refusal_of reason) }) (after L outcome)
         → left_of x (refused_at 0 (refusal_of reason)) ≡ step_in r d f g w x
     refused_left reason N made = ap onto (sym (after-refused L N (refusal_of reason) outcome made).0) ∙ step_opened
@@ -92,7 +111,7 @@ module _ {x : Lent} {H : List (List ℕ)} {L : List Line} (o : IsOpened x H L) w
     text = text_of i x.memory.variables H L
 
     -- how many numbers there are
-    last_opened : length H + length L ≡ x.hard.number + x.memory.lines
+    pub last_opened : length H + length L ≡ x.hard.number + x.memory.lines
     last_opened =
         let h = ap length o.hard ∙ formed_number x.memory.variables x.hard (formed_hard back_to_back x o.formed) in
         let l = ap length o.lines ∙ sym (ap (λ (m : Memory). m.lines) (well_image back_to_back x.memory (formed_memory back_to_back x o.formed))) in

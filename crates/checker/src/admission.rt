@@ -1,6 +1,7 @@
-// The tests of what is lent: of its lengths, which every operation makes, and of its form, which all but a filing make; and what
-// it holds. A refusal names record 0.
-ghost use Rattle.std.specs.Prelude.{◌≡◌, [], ◌&&◌, eqb, length, MatchResult};
+// The tests of what is lent: of its lengths, which every operation makes, and of its form, which all but a filing make. A refusal
+// names record 0.
+ghost use Rattle.std.specs.Prelude.{◌≡◌, ◌&&◌, eqb, length, MatchResult};
+ghost use Rattle.memory.specs.Memory.{standing_of};
 ghost use Rattle.checker.specs.Checker.{lent_of};
 ghost use Rattle.checker.specs.Opened.{IsOpened, IsUnfit};
 
@@ -8,7 +9,6 @@ use hard::HardList;
 use memory::form::well_formed;
 use memory::{Entry, Head};
 use refusal::{Reason, Refused};
-use table::Lines;
 
 // A refusal of what is lent: no record is at fault.
 pub fn refused(reason: Reason) -> Refused
@@ -24,18 +24,16 @@ pub fn lengths_fit(terms: &[u32], counts: &[u32], places: &[u32]) -> bool
     terms.len() == 8192 && counts.len() == 16 && places.len() == 1024
 }
 
-// Reads the lines of what is lent into a table that holds none yet, and answers the hard list.
-pub fn open(
+// Tests what is lent, and answers its hard list. Its lines are read behind the tests that an operation makes of what it is asked.
+pub fn admit(
     head: &Head,
     terms: &[u32],
     entries: &[Entry; 128],
     counts: &[u32],
     places: &[u32],
-    lines: &mut Lines,
 ) -> Result<HardList, Refused>
-    requires { lines.old ≡ [] }
     ensures { let x = lent_of head.now terms.now entries.now counts.now places.now in
-        MatchResult result (λ hard. IsOpened x hard lines.new) (IsUnfit x) }
+        MatchResult result (λ hard. IsOpened x hard (standing_of x.memory)) (IsUnfit x) }
 {
     if !lengths_fit(terms, counts, places) {
         return Err(refused(Reason::WrongLength));
@@ -46,6 +44,5 @@ pub fn open(
     let Some(hard) = HardList::open(head.variables, head.hard, counts, places) else {
         return Err(refused(Reason::IllFormed));
     };
-    memory::open::open(*head, terms, entries, lines);
     Ok(hard)
 }

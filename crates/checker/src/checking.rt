@@ -3,10 +3,11 @@ ghost use Rattle.std.specs.Prelude.{◌≡◌};
 ghost use Rattle.derivation.specs.Derivation.{told_of_check};
 ghost use Rattle.checker.specs.Checker.{lent_of, left_of, check_in};
 
-use crate::admission::{open, refused};
+use crate::admission::{admit, refused};
 use derivation::Confirmed;
 use memory::close::close;
 use memory::entries::used_by;
+use memory::open::open;
 use memory::{Entry, Head};
 use refusal::{Reason, Refused};
 use table::Lines;
@@ -28,8 +29,9 @@ pub fn check_derivation(
     let entries = table
         .as_mut_array::<128>()
         .ok_or(refused(Reason::WrongLength))?;
+    let hard = admit(head, terms, entries, counts, places)?;
     let mut lines = Lines::new();
-    let hard = open(head, terms, entries, counts, places, &mut lines)?;
+    open(*head, terms, entries, &mut lines);
     let variables = head.variables;
     let answer = derivation::check_derivation(bytes, variables, &hard, &mut lines);
     let used = used_by(entries);

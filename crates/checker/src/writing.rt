@@ -2,9 +2,10 @@
 ghost use Rattle.std.specs.Prelude.{◌≡◌};
 ghost use Rattle.checker.specs.Checker.{lent_of, write_in, told_of_line};
 
-use crate::admission::{open, refused};
+use crate::admission::{admit, refused};
 use listing::put_text;
 use listing::text::Writer;
+use memory::open::open;
 use memory::{Entry, Head};
 use refusal::{Reason, Refused};
 use table::Lines;
@@ -24,11 +25,12 @@ pub fn write_line(
         ≡ write_in number (lent_of head.now terms.now table.now counts.now places.now) area.old }
 {
     let entries = table.as_array::<128>().ok_or(refused(Reason::WrongLength))?;
-    let mut lines = Lines::new();
-    let hard = open(head, terms, entries, counts, places, &mut lines)?;
-    if hard.len() + lines.len() < number {
+    let hard = admit(head, terms, entries, counts, places)?;
+    if (head.hard as usize) + (head.lines as usize) < number {
         return Err(refused(Reason::NoSuchLine));
     }
+    let mut lines = Lines::new();
+    open(*head, terms, entries, &mut lines);
     let mut text = [0u8; 8448];
     let mut writer = Writer {
         out: &mut text,
