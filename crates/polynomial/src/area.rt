@@ -6,5 +6,8 @@ pub fn write(area: &mut [u32], at: usize, run: &[u32])
     requires { at + length run.now ≤ length area.old }
     ensures { let l = area.old in let s = run.now in area.new ≡ take at l ++ (s ++ drop (at + length s) l) }
 {
-    area[at..at + run.len()].copy_from_slice(run);
+    // One by one: `copy_from_slice` becomes a call of `memmove` here, and the library for C asks for no name but `memcpy` and `memset`.
+    for (i, &number) in run.iter().enumerate() {
+        area[at + i] = number;
+    }
 }
