@@ -7,7 +7,6 @@ use crate::state::Change;
 use calculus::{Mode, Rule};
 use memory::{Entry, Head};
 use record::{read_amount, read_mask};
-use std::alloc::{AllocError, Global};
 use step::Move;
 
 // What the byte of an item says of its numbers and operands.
@@ -114,13 +113,13 @@ pub fn signed_at(data: &[u8], at: usize) -> i64 {
     read_amount(data, at).unwrap_or(0)
 }
 
-// The first 128 terms of an operand.
-pub fn terms_of(alloc: Global, operand: &[u8]) -> Result<Vec<u32>, AllocError> {
-    operand
-        .chunks_exact(4)
-        .take(128)
-        .map(|term| short_at(term, 0))
-        .collect(alloc)
+// The first 128 terms of an operand, and zeros where it has fewer.
+pub fn terms_of(operand: &[u8]) -> [u32; 128] {
+    let mut terms = [0; 128];
+    for (term, bytes) in terms.iter_mut().zip(operand.chunks_exact(4)) {
+        *term = short_at(bytes, 0);
+    }
+    terms
 }
 
 // The text at the front of the data, and what is behind it; nothing where the text is cut.

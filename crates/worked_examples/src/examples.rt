@@ -3,11 +3,10 @@ use crate::outcome::outcome;
 use crate::tally::Tally;
 use example::item::{Item, split_item};
 use example::state::State;
-use std::alloc::Global;
 use std::io;
 
 // All items up to the end.
-pub fn work<P: Print>(to: &P, alloc: Global, data: &[u8]) -> io::Result<()> {
+pub fn work<P: Print>(to: &P, data: &[u8]) -> io::Result<()> {
     let mut tally = Tally::NONE;
     let mut state = State::NONE;
     let mut rest = data;
@@ -15,9 +14,9 @@ pub fn work<P: Print>(to: &P, alloc: Global, data: &[u8]) -> io::Result<()> {
         match item {
             Item::Change(change) => state.change(change),
             Item::Example(example) => {
-                let text = outcome(alloc, example, &mut state)?;
+                let text = outcome(example, &mut state)?;
                 if !example.name.is_empty() {
-                    tally.judge(to, example.name, &text, example.due)?;
+                    tally.judge(to, example.name, text.as_slice(), example.due)?;
                 }
             }
             Item::End => return tally.finish(to),

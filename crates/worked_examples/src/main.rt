@@ -14,5 +14,5 @@ use std::io;
 fn main(rt: HostRuntime) -> io::Result<()> {
     let mut data = [0u8; 196608];
     let size = read_file(&rt, b"examples", &mut data);
-    examples::work(&rt, rt.alloc(), &data[..size])
+    examples::work(&rt, &data[..size])
 }
