@@ -22,6 +22,17 @@ wrote_then {a} {b} {c} {x} {y} w v = record {
   bytes = v.bytes ∙ rw (w.bytes, w.end) (behind a.out.now a.at x y (omega (arith, w.room)));
 }
 
+-- a writer of the same area and place wrote it, and left the area and the place
+pub wrote_by : {a b w v : Writer} {x : List ℕ} → w.out.now ≡ a.out.now → w.at ≡ a.at → b.out.ghost_name ≡ a.out.ghost_name → b.out.now ≡ v.out.now
+    → b.at ≡ v.at → Wrote w v x → Wrote a b x
+wrote_by {a} {b} {w} {v} {x} bytes place area left end t = record {
+  area = area;
+  long = rw (left, ← bytes) t.long;
+  room = rw (← bytes, ← place) t.room;
+  end = rw (end, ← place) t.end;
+  bytes = rw (left, ← bytes, ← place) t.bytes;
+}
+
 -- ---- of a text that is to stand behind what stands in a, the rest is still to be written in b
 pub record Left (a : Writer) (whole : List ℕ) (b : Writer) (rest : List ℕ) : Type 0 where
   pub area : b.out.ghost_name ≡ a.out.ghost_name

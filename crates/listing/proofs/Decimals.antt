@@ -40,6 +40,12 @@ last_digit n l h =
 pub last_digit_length : (n : ℕ) → 10 ≤ n → n < 2 ^ 64 → length (decimal n) ≡ length (decimal (n / 10)) + 1
 last_digit_length n l h = rw (last_digit n l h) (length-append (decimal (n / 10)) (decimal_digit (n % 10) ∷ []))
 
+pub two_digits : (n : ℕ) → 10 ≤ n → n < 100 → decimal n ≡ (decimal_digit (n / 10) ∷ []) ++ (decimal_digit (n % 10) ∷ [])
+two_digits n l h = last_digit n l (omega arith) ∙ ap (λ (x : List ℕ). x ++ (decimal_digit (n % 10) ∷ [])) (one_digit 19 (n / 10) (omega arith))
+
+pub two_digits_length : (n : ℕ) → 10 ≤ n → n < 100 → length (decimal n) ≡ 2
+two_digits_length n l h = ap length (two_digits n l h)
+
 -- ---- a weight is its sign and its size
 unfoldable pub sign : ℤ → List ℕ
 sign (pos n) = []

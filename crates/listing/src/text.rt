@@ -1,6 +1,6 @@
 // A writer of text: it puts each text behind the one before, in an area of bytes that is lent. It is for this crate and for those
 // above, which have made room.
-ghost use Rattle.std.specs.Prelude.{◌≡◌, [], ◌∷◌, ◌≤◌, length, take};
+ghost use Rattle.std.specs.Prelude.{◌≡◌, [], ◌∷◌, ◌≤◌, ◌<◌, length, take};
 ghost use Rattle.listing.specs.Listing.{decimal, weight_text, name_text, names_text, term_text, terms_text};
 ghost use Rattle.listing.specs.Writer.{HasRoom, Wrote};
 ghost use Rattle.listing.specs.Writing.{starred};
@@ -34,14 +34,28 @@ impl<'a> Writer<'a> {
         self.at += 1;
     }
 
+    // A number of one or two digits in decimal. It calls nothing that calls itself, so that it can stand in the loop over a term.
+    #[tactic(auto, using(crate::proofs::Uses::uses_put_small))]
+    fn put_small(&mut self, n: u8)
+        requires digits { n < 100 }
+        requires room { HasRoom self.old (decimal n) }
+        ensures { Wrote self.old self.new (decimal n) }
+    {
+        if n < 10 {
+            return self.put_byte(b'0' + n);
+        }
+        self.put_byte(b'0' + n / 10);
+        self.put_byte(b'0' + n % 10);
+    }
+
     // A number in decimal: the digits in front of the last one first.
     #[tactic(auto, using(crate::proofs::Uses::uses_put_decimal))]
     pub fn put_decimal(&mut self, n: u64)
         requires { HasRoom self.old (decimal n) }
         ensures { Wrote self.old self.new (decimal n) }
     {
-        if n < 10 {
-            return self.put_byte(b'0' + n as u8);
+        if n < 100 {
+            return self.put_small(n as u8);
         }
         self.put_decimal(n / 10);
         self.put_byte(b'0' + (n % 10) as u8);
@@ -60,14 +74,15 @@ impl<'a> Writer<'a> {
 
     // The name of a variable, behind an asterisk unless it is the first of its term.
     fn put_name(&mut self, first: bool, i: u32)
-        requires { HasRoom self.old (starred first (name_text i)) }
+        requires digits { i < 100 }
+        requires room { HasRoom self.old (starred first (name_text i)) }
         ensures { Wrote self.old self.new (starred first (name_text i)) }
     {
         if !first {
             self.put_byte(b'*');
         }
         self.put_byte(b'x');
-        self.put_decimal(i as u64);
+        self.put_small(i as u8);
     }
 
     // The variables of a term that is not 1, ascending, with an asterisk between each two: each turn goes to the next one in
@@ -100,17 +115,23 @@ impl<'a> Writer<'a> {
         self.put_names(mask);
     }
 
-    // The terms of a polynomial, with a plus sign between each two.
+    // The terms of a polynomial, with a plus sign between each two. A writer of its own puts them: its place is in nobody else's
+    // sight, so it need not go to memory with each byte.
     pub fn put_terms(&mut self, f: &[u32])
         requires { HasRoom self.old (terms_text f.now) }
         ensures { Wrote self.old self.new (terms_text f.now) }
     {
+        let mut terms = Writer {
+            out: &mut *self.out,
+            at: self.at,
+        };
         for (i, &term) in f.iter().enumerate() {
             if 0 < i {
-                self.put_bytes(b" + ");
+                terms.put_bytes(b" + ");
             }
-            self.put_term(term);
+            terms.put_term(term);
         }
+        self.at = terms.at;
     }
 }
 

@@ -18,4 +18,4 @@ parted c =
 
 pub returns : goal.returns
 returns c =
-    wrote_as _ (sym (starred_parts c.args.first _)) (wrote_then (parted (goal.at.returns c).Joined-not-first) (wrote_then c.put_byte-2.ensures c.put_decimal.ensures))
+    wrote_as _ (sym (starred_parts c.args.first _)) (wrote_then (parted (goal.at.returns c).Joined-not-first) (wrote_then c.put_byte-2.ensures c.put_small.ensures))

@@ -2,6 +2,7 @@
 use mathlib.Core.Bool.{false}
 use mathlib.Core.List.{List, ◌++◌}
 use Prim.Native.Nat.{ℕ, ◌+◌, ◌-◌, ◌/◌, ◌^◌}
+use native.Mathlib.Omega.{arith}
 use lib.Count.{count_trailing_zeros}
 use Rattle.listing.specs.Listing.{name_text, names_from, names_text}
 use Rattle.listing.specs.Writing.{starred}
@@ -30,7 +31,9 @@ begun : (c : goal.In-loop-rest) → Left c.args.self.now (names_text c.args.mask
 begun c = left_as (name c ++ others c) (there c).text c.loop-rest.invariant.left
 
 pub put_name-requires : goal.put_name-requires
-put_name-requires c = let d = (goal.at.put_name-requires c).In-loop-rest in left_room (name d) (others d) (begun d)
+put_name-requires c =
+    let d = (goal.at.put_name-requires c).In-loop-rest in
+    record { digits = omega (arith, (there d).within); room = left_room (name d) (others d) (begun d) }
 
 pub loop-rest-preserved : goal.loop-rest-preserved
 loop-rest-preserved c =

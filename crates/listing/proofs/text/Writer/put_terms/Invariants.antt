@@ -7,4 +7,4 @@ use Rattle.listing.proofs.Names.{spread}
 use Rattle.listing.proofs.text.Writer.put_terms.Given as goal
 
 abbrev pub invariant-loop-i : goal.invariant-loop-i
-invariant-loop-i l = Left l.initial.self (terms_text l.f) l.self (spread l.i (map term_text (drop l.i l.f)))
+invariant-loop-i l = Left l.initial.terms (terms_text l.f) l.terms (spread l.i (map term_text (drop l.i l.f)))
