@@ -5,4 +5,3 @@ pub mod Lines
 pub mod Listings
 pub mod Names
 pub mod Writes
-pub mod Uses

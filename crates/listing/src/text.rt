@@ -35,7 +35,7 @@ impl<'a> Writer<'a> {
     }
 
     // A number of one or two digits in decimal. It calls nothing that calls itself, so that it can stand in the loop over a term.
-    #[tactic(auto, using(crate::proofs::Uses::uses_put_small))]
+    #[tactic(auto, using(crate::proofs::Chains::wrote_as, crate::proofs::Decimals::one_digit, crate::proofs::Decimals::two_digits_length))]
     fn put_small(&mut self, n: u8)
         requires digits { n < 100 }
         requires room { HasRoom self.old (decimal n) }
@@ -49,7 +49,7 @@ impl<'a> Writer<'a> {
     }
 
     // A number in decimal: the digits in front of the last one first.
-    #[tactic(auto, using(crate::proofs::Uses::uses_put_decimal))]
+    #[tactic(auto, using(crate::proofs::Decimals::last_digit_length))]
     pub fn put_decimal(&mut self, n: u64)
         requires { HasRoom self.old (decimal n) }
         ensures { Wrote self.old self.new (decimal n) }
