@@ -4,4 +4,5 @@ pub mod Decimals
 pub mod Lines
 pub mod Listings
 pub mod Names
+pub mod Texts
 pub mod Writes

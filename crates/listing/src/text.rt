@@ -3,7 +3,7 @@
 ghost use Rattle.std.specs.Prelude.{◌≡◌, [], ◌∷◌, ◌≤◌, ◌<◌, length, take};
 ghost use Rattle.listing.specs.Listing.{decimal, weight_text, name_text, names_text, term_text, terms_text};
 ghost use Rattle.listing.specs.Writer.{HasRoom, Wrote};
-ghost use Rattle.listing.specs.Writing.{starred};
+ghost use Rattle.listing.specs.Writing.{padded, starred};
 
 use std::marker::Model;
 
@@ -135,33 +135,42 @@ impl<'a> Writer<'a> {
     }
 }
 
-// A text by value: the front of its bytes, whose room is fixed, since no memory is asked for.
-#[derive(Drop)]
+// A text by value: the front of its bytes, whose room is fixed, since no memory is asked for. The bytes behind it are zeros.
+#[derive(Clone, Copy)]
 pub struct Text<const N: usize> {
     bytes: [u8; N],
     size: usize,
 }
 
 impl<const N: usize> Model for Text<N> {
-    ghost use Rattle.std.specs.Prelude.{List, ℕ, ◌≤◌, take};
+    ghost use Rattle.std.specs.Prelude.{◌≡◌, List, ℕ, ◌≤◌, length, take};
+    ghost use Rattle.std.proofs.Common.{arith, length-take-le};
+    ghost use Rattle.listing.specs.Writing.{padded};
 
     ghost Value = { List ℕ };
 
     ghost view = { λ text. take text.size text.bytes };
 
-    ghost invariant = { λ text. text.size ≤ N };
+    ghost invariant = { λ text. (text.size ≤ N) × (length text.bytes ≡ N) × (padded N (take text.size text.bytes) ≡ text.bytes) };
+
+    ghost inverse = { λ s. record { bytes = padded N s; size = length s } };
+
+    ghost inverse_ok = { λ text h i. record { bytes = h.2 i; size = length-take-le text.size text.bytes (omega (arith, h.0, h.1)) i } };
 }
 
 impl<const N: usize> Text<N> {
-    // The first bytes of an area.
+    // The first bytes of an area. It is for the crate `report`, where a writer has put them.
     pub fn new(bytes: [u8; N], size: usize) -> Self
         requires { size ≤ N }
         ensures { result ≡ take size bytes.entry }
     {
+        let mut bytes = bytes;
+        let all = &mut bytes[..];
+        all[size..].fill(0);
         Text { bytes, size }
     }
 
-    // A copy of a text that is there.
+    // A copy of a text that is there. It is for the crate `report`, whose texts fit.
     pub fn copy_of(text: &[u8]) -> Self
         requires { length text.now ≤ N }
         ensures { result ≡ text.now }
@@ -180,5 +189,12 @@ impl<const N: usize> Text<N> {
         ensures room { length self.now ≤ N }
     {
         &self.bytes[..self.size]
+    }
+
+    // All bytes: the text, and the zeros behind it.
+    pub fn bytes(&self) -> &[u8; N]
+        ensures { result.now ≡ padded N self.now }
+    {
+        &self.bytes
     }
 }
