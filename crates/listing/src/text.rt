@@ -1,5 +1,5 @@
-// A writer of text: it puts each text behind the one before, in an area of bytes that is lent. It is for this crate and for those
-// above, which have made room.
+// A writer of text: it puts each text behind the one before, in an area of bytes that is lent. It is for this crate, for `checker`
+// and for `report`, which have made room.
 ghost use Rattle.std.specs.Prelude.{◌≡◌, [], ◌∷◌, ◌≤◌, ◌<◌, length, take};
 ghost use Rattle.listing.specs.Listing.{decimal, weight_text, name_text, names_text, term_text, terms_text};
 ghost use Rattle.listing.specs.Writer.{HasRoom, Wrote};
