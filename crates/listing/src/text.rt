@@ -191,10 +191,10 @@ impl<const N: usize> Text<N> {
         &self.bytes[..self.size]
     }
 
-    // All bytes: the text, and the zeros behind it.
-    pub fn bytes(&self) -> &[u8; N]
-        ensures { result.now ≡ padded N self.now }
+    // All bytes, for a reader of a fixed number: the text, and the zeros behind it.
+    pub fn bytes(&self) -> [u8; N]
+        ensures { result ≡ padded N self.now }
     {
-        &self.bytes
+        self.bytes
     }
 }
