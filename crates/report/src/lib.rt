@@ -11,12 +11,11 @@ ghost use Rattle.derivation.specs.Derivation.{told_of_check};
 ghost use Rattle.listing.specs.Writer.{HasRoom, Wrote};
 ghost use Rattle.report.specs.Report.{refusal_text, confirmed_text, filing_text, verdict_text, code_text, report_text, code_output, check_output, code_of_file, check_of_files, check_into};
 
-pub use listing::text::Text;
-
 use derivation::{Confirmed, check_derivation};
 use hard::HardList;
 use listing::code::code_of;
 use listing::put_listing;
+pub use listing::text::Text;
 use listing::text::Writer;
 use problem::file_problem;
 use refusal::{Refused, number};
