@@ -77,7 +77,7 @@ pub stepped_cost : (H : List (List ℕ)) (r : Rule) (f g : List ℕ) (w : ℤ) (
 stepped_cost H r f g w L α a = cost_all (changes H r f g w) L α ∙ rw (changes-cost H r f g w α a) (+ℤ_idr (cost L α))
 
 -- ---- where f g or f (g + 1) is 0 the other is f, and PROD changes nothing; f has any length
-rest_whole : (f g : List ℕ) → IsOrdered f → product_of f g ≡ ZERO → product_of f (sum_of g ONE) ≡ f
+pub rest_whole : (f g : List ℕ) → IsOrdered f → product_of f g ≡ ZERO → product_of f (sum_of g ONE) ≡ f
 rest_whole f g s e = product_plus_one f g ∙ ap (sum_of f) e ∙ ap normal (append-nil f) ∙ normal_id before written f s
 
 product_whole : (f g : List ℕ) → IsOrdered f → product_of f (sum_of g ONE) ≡ ZERO → product_of f g ≡ f

@@ -25,7 +25,7 @@ use Rattle.replacement.specs.PassesLaws.{netted_weight, netted_small}
 use Rattle.step.proofs.Added.{all_snoc, IsSmall-snoc, add_short, all_short}
 use Rattle.hard.specs.Hard.{hard_at, is_number}
 use Rattle.calculus.specs.Calculus.{changes}
-use Rattle.calculus.specs.CalculusLaws.{none_changed}
+use Rattle.calculus.specs.CalculusLaws.{none_changed, rest_whole}
 use Rattle.calculus.specs.declared.Rule.{Rule}
 use Rattle.calculus.specs.declared.Rule.TheVariants.{Sum, Prod, Hard}
 use Rattle.step.specs.Stepping.{HasPlan}
@@ -86,6 +86,9 @@ place_of H (suc i) k = let e : suc i - 1 ≡ i = omega arith in (omega arith, om
 no_terms : (l : List ℕ) → length l ≡ 0 → l ≡ ZERO
 no_terms [] e = refl
 no_terms (t ∷ l) e = let z : ⊥ = omega arith in absurd z
+
+pub rest_is_f : (f g : List ℕ) → IsOrdered f → length (product_of f g) ≡ 0 → product_of f (sum_of g ONE) ≡ f
+rest_is_f f g s e = rest_whole f g s (no_terms (product_of f g) e)
 
 pub made_none : (f g : List ℕ) (w : ℤ) → IsOrdered f → (length (product_of f g) ≡ 0) ⊎ (length (product_of f (sum_of g ONE)) ≡ 0) → add_all (changes [] Prod f g w) [] ≡ []
 made_none f g w s h = none_changed [] f g w s (go h)

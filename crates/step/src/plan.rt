@@ -48,15 +48,15 @@ fn plan_prod(f: &[u32], g: &[u32], amount: i64, changes: &mut Changes) -> Result
     if 64 < n {
         return Err(Reason::TooManyTerms(n as u64));
     }
+    // Where f g or f (g + 1) is 0 the other is f, which gets back what it loses: nothing changes.
+    if n == Polynomial::ZERO.count {
+        return Ok(());
+    }
     let p = &product[..n];
     let mut rest = [0u32; 64];
     let m = Polynomial::sum(p, f, &mut rest);
     if 64 < m {
         return Err(Reason::TooManyTerms(m as u64));
-    }
-    // Where f g or f (g + 1) is 0 the other is f, which gets back what it loses: nothing changes.
-    if n == Polynomial::ZERO.count {
-        return Ok(());
     }
     if m == Polynomial::ZERO.count {
         return Ok(());

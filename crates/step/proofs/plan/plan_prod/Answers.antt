@@ -19,7 +19,7 @@ use Rattle.replacement.specs.Passes.{IsSmall}
 use Rattle.calculus.specs.Calculus.{changes}
 use Rattle.calculus.specs.declared.Rule.TheVariants.{Prod}
 use Rattle.step.proofs.Amounts.{negated_is, IsSmall-changes}
-use Rattle.step.proofs.Plans.{too_long_lem, not_long, plus_one, Folded, Folded-none, fold_asked, fold_given, made_none}
+use Rattle.step.proofs.Plans.{too_long_lem, not_long, plus_one, Folded, Folded-none, fold_asked, fold_given, rest_is_f, made_none}
 use Rattle.step.proofs.plan.plan_prod.Goals as goal
 use Rattle.step.proofs.plan.plan_prod.Goals.{After-add, After-add-2, After-add-3, After-product-n, After-sum-m, Else-m-gt64, Else-n-gt64, Start}
 
@@ -110,9 +110,17 @@ returns-then-m-gt64 c =
       c.requires.3,
     )
 
+-- where f g is 0, f (g + 1) is f, which is short
 pub returns-then-n : goal.returns-then-n
 returns-then-n c =
-    let d = (goal.at.returns-then-n c).Else-m-gt64 in (fits d _ (none d (inl (sym (told_product (goal.at.returns-then-n c).After-product-n).0 ∙ c.if-n.true))), tt)
+    let s = (goal.at.returns-then-n c).Start in
+    let o = accepted (add_all (ruled s) []) in
+    let e : length (product s) ≡ 0 = sym (told_product (goal.at.returns-then-n c).After-product-n).0 ∙ c.if-n.true in (
+      not_long c.product-n.result (product s) (told_product (goal.at.returns-then-n c).After-product-n).0 (short (rest s) ∷ []) o c.if-n-gt64.false
+          (not_long (length (rest s)) (rest s) refl [] o (omega (arith, ap length (rest_is_f c.args.f.now c.args.g.now c.requires.0.1 e), c.requires.0.0))
+          (ap accepted (c.requires.3 ∙ sym (made_none c.args.f.now c.args.g.now c.args.amount c.requires.0.1 (inl e))))),
+      tt,
+    )
 
 pub returns-then-m : goal.returns-then-m
 returns-then-m c =
