@@ -18,7 +18,8 @@ pub fn start() -> u64
     BASIS
 }
 
-// a * b modulo 2^64, for any a and b. `halves`: it is made of products of halves of 32 bits, none of which takes more than 64 bits.
+// a * b modulo 2^64, for any a and b. `halves`: that is also what products of halves of 32 bits make, none of which takes more than 64
+// bits.
 pub fn multiply(a: u64, b: u64) -> u64
     ensures product { result ≡ a * b % 2 ^ 64 }
     ensures halves { result ≡ product_by_halves 32 a b }

@@ -159,7 +159,7 @@ impl<const N: usize> Model for Text<N> {
 }
 
 impl<const N: usize> Text<N> {
-    // The first bytes of an area. It is for the crate `report`, where a writer has put them.
+    // The first bytes of an area. It is for the crates `report` and `worked_examples`, which have written no more than there is room for.
     pub fn new(bytes: [u8; N], size: usize) -> Self
         requires { size ≤ N }
         ensures { result ≡ take size bytes.entry }

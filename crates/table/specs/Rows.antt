@@ -82,7 +82,7 @@ pub record Fits (c : ℕ) (t : Table) : Type 0 where
   pub entered : Each (Entered t) (take t.lines t.order)
   pub ordered : IsInOrder (lines_of t)
 
--- a table fits and holds the lines L: each of the code holds the list that is its model (`TableLaws` `kept_holds`), also when a function has changed it
+-- a table fits and holds the lines L. Each table that code has holds the list that is its model, before a method and after it (`TableLaws` `kept_holds`)
 abbrev pub Holds : ℕ → List Line → Table → Type 0
 Holds c L t = (lines_of t ≡ L) × Fits c t
 

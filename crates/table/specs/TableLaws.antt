@@ -6,7 +6,7 @@ use Rattle.configuration.specs.Configuration.{Line, line}
 use Rattle.table.specs.Rows.{Table, lines_of, first_key, Holds}
 use Rattle.table.specs.Table.{no_line, terms_at, weight_at, leading_degree, IsKept}
 
--- a kept table, as each of the code is, holds the list that is its model
+-- what is kept of each table that code has: it holds the list that is its model
 pub kept_holds : {c : ℕ} {t : Table} → IsKept c t → Holds c (lines_of t) t
 kept_holds q = (refl, q.fits)
 
