@@ -76,7 +76,7 @@ impl HardList {
         self.number
     }
 
-    /// The polynomial at a place, from 0. It is for `step` and `listing`, which have tested the place.
+    /// The polynomial at a place, from 0. It is for this crate and for `step` and `listing`, which have tested the place.
     pub fn polynomial(&self, i: usize) -> &[u32]
         requires { i < length self.now }
         ensures terms { result.now ≡ get_or self.now i [] }
@@ -116,8 +116,8 @@ impl HardList {
     }
 }
 
-/// From what is lent to the list as one run of 1,041 numbers. It is for callers who keep that run in place of a `HardList`, and have tested
-/// the lengths: what is lent may hold anything.
+/// From what is lent to the list as one run of 1,041 numbers. No crate here calls it: it is for one that keeps that run in place of a
+/// `HardList`, and has tested the lengths. What is lent may hold anything.
 pub fn gather(number: u32, counts: &[u32], places: &[u32], hard: &mut [u32])
     requires { (length counts.now ≡ 16) × (length places.now ≡ 1024) × (length hard.old ≡ 1041) }
     ensures { hard.new ≡ flat (record { number = number; counts = counts.now; places = places.now }) }
@@ -127,7 +127,7 @@ pub fn gather(number: u32, counts: &[u32], places: &[u32], hard: &mut [u32])
     hard[17..].copy_from_slice(places);
 }
 
-/// From that run to what is lent, but for the number. It is for the same callers.
+/// From that run to what is lent, but for the number. It is for the same crate.
 pub fn scatter(hard: &[u32], counts: &mut [u32], places: &mut [u32])
     requires { (length hard.now ≡ 1041) × (length counts.old ≡ 16) × (length places.old ≡ 1024) }
     ensures { let a = area_in hard.now in (counts.new ≡ a.counts) × (places.new ≡ a.places) }
